@@ -1,0 +1,151 @@
+//! The outside: files, a connection, a text that is written and a clock, each as a trait whose clauses say what its calls mean.
+//!
+//! What an object means at one moment is its ghost member `state`. Whether it tells its contents never changes, and
+//! what it tells is pinned only where it does: a real file may be changed by others, a file in memory is not.
+//! A call that fails raises a count of that kind of call. No count falls, and each ends at 2^64 - 1, where every
+//! failing call counts as having raised it.
+
+ghost use Rattle.std.specs.Prelude.{◌≡◌, ◌<◌, IsTrue, IsErr, IsErrOf, OnOk, OnErr, IfOk, length};
+ghost use Rattle.std.specs.Io.{StartsWith};
+ghost use Rattle.colo_base.specs.Count.{Rose};
+
+use crate::Failed;
+
+/// Why a call on a shelf did not do what it was asked.
+#[derive(Clone, Copy, Debug, PartialEq, Eq)]
+pub enum ShelfFault {
+    /// The file is missing, or reading or writing it failed. The count of such calls for its name rose.
+    Failed,
+    /// An allocation was refused.
+    NoMemory,
+}
+
+/// What a receive answers.
+#[derive(Clone, Copy, Debug, PartialEq, Eq)]
+pub enum Heard {
+    /// So many bytes were taken, at least one. They are the first of the buffer.
+    Took(usize),
+    /// No byte has come. The count of such answers rose.
+    Quiet,
+    /// No further byte will come.
+    Ended,
+}
+
+/// Files by name, each a string of bytes.
+///
+/// A shelf means the contents of each name, where it tells them, and for each name how many fetches and how many
+/// creates and appends failed. A call leaves every other name's contents alone.
+pub trait Shelf {
+    ghost use Rattle.colo_base.specs.Shelf.{ShelfState, ChangesOnly, Fetches, Empties, EmptiesOrKeeps, Adds, AddsPart};
+
+    ghost state: { Self → ShelfState };
+
+    /// Appends the contents of the file `name` to `into`. It changes no file.
+    ///
+    /// A missing file is `Failed`. Whatever the answer, `into` begins with what it held.
+    fn fetch(&mut self, name: &str, into: &mut Vec<u8>) -> Result<(), ShelfFault>
+        ensures bytes { OnOk result (Fetches (state self.old) name.now into.old.items into.new.items) }
+        ensures front { StartsWith into.new.items into.old.items }
+        ensures only { ChangesOnly (λ _. ⊥) (state self.old) (state self.new) }
+        ensures cause { IsErrOf result ShelfFault.Failed
+            → Rose ((state self.old).fetch_faults name.now) ((state self.new).fetch_faults name.now) };
+
+    /// Makes the file `name` empty, whether it was there or not.
+    ///
+    /// After an `Err` it is empty, or as it was.
+    fn create(&mut self, name: &str) -> Result<(), ShelfFault>
+        ensures ok { OnOk result (Empties (state self.old) (state self.new) name.now) }
+        ensures err { OnErr result (EmptiesOrKeeps (state self.old) (state self.new) name.now) }
+        ensures only { ChangesOnly (λ other. other ≡ name.now) (state self.old) (state self.new) }
+        ensures cause { IsErrOf result ShelfFault.Failed
+            → Rose ((state self.old).write_faults name.now) ((state self.new).write_faults name.now) };
+
+    /// Adds `bytes` at the end of the file `name`, and begins a file that isn't there.
+    ///
+    /// After an `Err` a prefix of the bytes was added, or the file is as it was.
+    fn append(&mut self, name: &str, bytes: &[u8]) -> Result<(), ShelfFault>
+        ensures ok { OnOk result (Adds (state self.old) (state self.new) name.now bytes.now) }
+        ensures err { OnErr result (AddsPart (state self.old) (state self.new) name.now bytes.now) }
+        ensures only { ChangesOnly (λ other. other ≡ name.now) (state self.old) (state self.new) }
+        ensures cause { IsErrOf result ShelfFault.Failed
+            → Rose ((state self.old).write_faults name.now) ((state self.new).write_faults name.now) };
+}
+
+/// A connection that carries bytes both ways.
+///
+/// A link means whether an `open` of it answered `Ok`, the answers of its receives and the bytes sent, where it tells
+/// them, and how many opens of each address, receives and sends failed and how many receives were quiet.
+pub trait Link {
+    ghost use Rattle.colo_base.specs.Link.{LinkState, LinkGoesOn, SameAnswers, SameSent, Sends, SendsPart, Hears};
+
+    ghost state: { Self → LinkState };
+
+    /// Connects to `address`. Nothing is heard or sent by it.
+    ///
+    /// After an `Err` the link is open exactly where it was.
+    fn open(&mut self, address: &str) -> Result<(), Failed>
+        ensures ok { OnOk result (IsTrue (state self.new).opened) }
+        ensures err { OnErr result ((state self.new).opened ≡ (state self.old).opened) }
+        ensures heard { SameAnswers (state self.old) (state self.new) }
+        ensures sent { SameSent (state self.old) (state self.new) }
+        ensures counts { LinkGoesOn (state self.old) (state self.new) }
+        ensures cause { IsErr result
+            → Rose ((state self.old).open_faults address.now) ((state self.new).open_faults address.now) };
+
+    /// Takes bytes that have come into the front of `into`, which isn't empty.
+    ///
+    /// The link must have been opened. Nothing is sent by it. After an `Err` no answer was added, and nothing is said
+    /// of what `into` holds.
+    fn receive(&mut self, into: &mut [u8]) -> Result<Heard, Failed>
+        requires opened { IsTrue (state self.old).opened }
+        requires room { 0 < length into.old }
+        ensures ok { IfOk result (λ heard. Hears (state self.old) (state self.new) into.new heard) }
+        ensures err { OnErr result (SameAnswers (state self.old) (state self.new)) }
+        ensures opened { (state self.new).opened ≡ (state self.old).opened }
+        ensures sent { SameSent (state self.old) (state self.new) }
+        ensures counts { LinkGoesOn (state self.old) (state self.new) }
+        ensures cause { IsErr result → Rose (state self.old).receive_faults (state self.new).receive_faults };
+
+    /// Sends `bytes`.
+    ///
+    /// The link must have been opened. Nothing is heard by it. After an `Err` a prefix of the bytes was sent.
+    fn send(&mut self, bytes: &[u8]) -> Result<(), Failed>
+        requires { IsTrue (state self.old).opened }
+        ensures ok { OnOk result (Sends (state self.old) (state self.new) bytes.now) }
+        ensures err { OnErr result (SendsPart (state self.old) (state self.new) bytes.now) }
+        ensures opened { (state self.new).opened ≡ (state self.old).opened }
+        ensures heard { SameAnswers (state self.old) (state self.new) }
+        ensures counts { LinkGoesOn (state self.old) (state self.new) }
+        ensures cause { IsErr result → Rose (state self.old).send_faults (state self.new).send_faults };
+}
+
+/// A text that is written, as standard output.
+///
+/// A sink means the bytes put, where it tells them, and how many puts failed.
+pub trait Sink {
+    ghost use Rattle.colo_base.specs.Sink.{SinkState, SinkGoesOn, Puts, PutsPart};
+
+    ghost state: { Self → SinkState };
+
+    /// Writes `bytes`.
+    ///
+    /// After an `Err` a prefix of the bytes was written.
+    fn put(&mut self, bytes: &[u8]) -> Result<(), Failed>
+        ensures ok { OnOk result (Puts (state self.old) (state self.new) bytes.now) }
+        ensures err { OnErr result (PutsPart (state self.old) (state self.new) bytes.now) }
+        ensures counts { SinkGoesOn (state self.old) (state self.new) }
+        ensures cause { IsErr result → Rose (state self.old).faults (state self.new).faults };
+}
+
+/// A clock that counts ticks.
+///
+/// A clock means the numbers that it gave, where it tells them. It has no fault.
+pub trait Clock {
+    ghost use Rattle.colo_base.specs.Clock.{ClockState, Gives};
+
+    ghost state: { Self → ClockState };
+
+    /// How many ticks the clock has counted.
+    fn ticks(&mut self) -> u64
+        ensures { Gives (state self.old) (state self.new) result };
+}
