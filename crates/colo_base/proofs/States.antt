@@ -1,0 +1,74 @@
+-- What follows from the relations of the outside over several calls.
+use Rattle.std.proofs.Common.{ℕ, ◌≤◌, List, ◌++◌, refl, ◌∙◌, arith}
+use Rattle.std.specs.Io.{StartsWith}
+use Rattle.std.proofs.lemmas.Grind.{common_steps}
+use Rattle.colo_base.specs.Count.{Rose}
+use Rattle.colo_base.specs.Shelf.{ShelfState, ChangesOnly}
+use Rattle.colo_base.specs.Link.{LinkState, LinkGoesOn}
+use Rattle.colo_base.specs.Sink.{SinkState, SinkGoesOn}
+
+-- a count that rose later rose over the whole
+pub rose_before : (a b c : ℕ) → a ≤ b → Rose b c → Rose a c
+rose_before a b c le rose = omega arith
+
+-- a count that rose earlier rose over the whole
+pub rose_after : (a b c : ℕ) → Rose a b → b ≤ c → Rose a c
+rose_after a b c rose le = omega arith
+
+-- what didn't change changed only what it may
+pub changes_none : (P : List ℕ → Type 0) (s : ShelfState) → ChangesOnly P s s
+changes_none P s =
+    record { told = refl; fetch_faults = λ name. omega arith; write_faults = λ name. omega arith; others = λ told name out. refl }
+
+-- two changes in a row
+pub changes_then : (P : List ℕ → Type 0) (a b c : ShelfState) → ChangesOnly P a b → ChangesOnly P b c → ChangesOnly P a c
+changes_then P a b c first second =
+    record {
+      told = second.told ∙ first.told;
+      fetch_faults = λ name. omega (arith, first.fetch_faults name, second.fetch_faults name);
+      write_faults = λ name. omega (arith, first.write_faults name, second.write_faults name);
+      others = λ told name out. second.others (first.told ∙ told) name out ∙ first.others told name out;
+    }
+
+-- a change of fewer names
+pub changes_wider : (P Q : List ℕ → Type 0) (a b : ShelfState) → ((name : List ℕ) → P name → Q name) → ChangesOnly P a b → ChangesOnly Q a b
+changes_wider P Q a b wider change =
+    record {
+      told = change.told;
+      fetch_faults = change.fetch_faults;
+      write_faults = change.write_faults;
+      others = λ told name out. change.others told name (λ p. out (wider name p));
+    }
+
+-- a sink that isn't used goes on
+pub sink_none : (s : SinkState) → SinkGoesOn s s
+sink_none s = record { told = refl; faults = omega arith }
+
+-- two puts in a row
+pub sink_then : (a b c : SinkState) → SinkGoesOn a b → SinkGoesOn b c → SinkGoesOn a c
+sink_then a b c first second =
+    record { told = second.told ∙ first.told; faults = omega (arith, first.faults, second.faults) }
+
+-- a link that isn't used goes on
+pub link_none : (s : LinkState) → LinkGoesOn s s
+link_none s =
+    record { told = refl; open_faults = λ address. omega arith; receive_faults = omega arith; send_faults = omega arith; quiets = omega arith }
+
+-- two calls of a link in a row
+pub link_then : (a b c : LinkState) → LinkGoesOn a b → LinkGoesOn b c → LinkGoesOn a c
+link_then a b c first second =
+    record {
+      told = second.told ∙ first.told;
+      open_faults = λ address. omega (arith, first.open_faults address, second.open_faults address);
+      receive_faults = omega (arith, first.receive_faults, second.receive_faults);
+      send_faults = omega (arith, first.send_faults, second.send_faults);
+      quiets = omega (arith, first.quiets, second.quiets);
+    }
+
+-- bytes begin with themselves
+pub front_itself : (xs : List ℕ) → StartsWith xs xs
+front_itself xs = grind (arith, common_steps)
+
+-- what is added comes behind
+pub front_append : (xs ys : List ℕ) → StartsWith (xs ++ ys) xs
+front_append xs ys = grind (arith, common_steps)
