@@ -1,9 +1,10 @@
 -- What follows from the relations of the outside over several calls.
-use Rattle.std.proofs.Common.{ℕ, ◌≤◌, List, ◌++◌, refl, ◌∙◌, arith}
+use Rattle.std.proofs.Common.{◌≡◌, ℕ, ◌≤◌, List, [], ◌++◌, Some, unwrap_or, refl, ◌∙◌, ap, inl, inr, append_assoc, length, length-append, arith}
+use Rattle.std.proofs.Math.Seq.{take-append-add}
 use Rattle.std.specs.Io.{StartsWith}
 use Rattle.std.proofs.lemmas.Grind.{common_steps}
 use Rattle.colo_base.specs.Count.{Rose}
-use Rattle.colo_base.specs.Shelf.{ShelfState, ChangesOnly}
+use Rattle.colo_base.specs.Shelf.{ShelfState, ChangesOnly, held, Adds, AddsPart}
 use Rattle.colo_base.specs.Link.{LinkState, LinkGoesOn}
 use Rattle.colo_base.specs.Sink.{SinkState, SinkGoesOn}
 
@@ -72,3 +73,28 @@ front_itself xs = grind (arith, common_steps)
 -- what is added comes behind
 pub front_append : (xs ys : List ℕ) → StartsWith (xs ++ ys) xs
 front_append xs ys = grind (arith, common_steps)
+
+-- what begins the second part begins the whole behind the first
+pub front_more : (xs ys part : List ℕ) → StartsWith ys part → StartsWith (xs ++ ys) (xs ++ part)
+front_more xs ys part front =
+    rw (length-append xs part) (take-append-add xs ys (length part) ∙ ap (λ zs. xs ++ zs) front)
+
+-- a prefix of the first part is a prefix of the whole
+pub front_less : (xs ys part : List ℕ) → StartsWith xs part → StartsWith (xs ++ ys) part
+front_less xs ys part front = grind (arith, common_steps)
+
+-- what two appends in a row add
+pub adds_then : (a b c : ShelfState) (name xs ys : List ℕ) → b.told ≡ a.told → Adds a b name xs → Adds b c name ys → Adds a c name (xs ++ ys)
+adds_then a b c name xs ys same first second = λ told.
+    let now : b.contents name ≡ Some (held a name ++ xs) = first told in
+    let all : c.contents name ≡ Some (held b name ++ ys) = second (same ∙ told) in
+    all ∙ ap (λ o. Some (unwrap_or o [] ++ ys)) now ∙ ap Some (append_assoc (held a name) xs ys)
+
+-- an append that was broken off after one that wasn't
+pub adds_then_part : (a b c : ShelfState) (name xs ys : List ℕ) → b.told ≡ a.told → Adds a b name xs → AddsPart b c name ys → AddsPart a c name (xs ++ ys)
+adds_then_part a b c name xs ys same first second = λ told.
+    let now : b.contents name ≡ Some (held a name ++ xs) = first told in
+    elim (second (same ∙ told)) [
+      | inl kept ↦ inr (xs, front_append xs ys, kept ∙ now)
+      | inr added ↦ inr (xs ++ added.0, front_more xs ys added.0 added.1, added.2 ∙ ap (λ o. Some (unwrap_or o [] ++ added.0)) now ∙ ap Some (append_assoc (held a name) xs added.0))
+    ]

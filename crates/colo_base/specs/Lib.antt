@@ -3,3 +3,4 @@ pub mod Shelf
 pub mod Link
 pub mod Sink
 pub mod Clock
+pub mod Bytes
