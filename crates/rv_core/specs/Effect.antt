@@ -1,5 +1,5 @@
 -- What each row of the instruction table does (RISC-V unprivileged, RV32I, 2.4 to 2.6), over any bus.
-use Rattle.std.specs.Prelude.{ℕ, ◌+◌, ◌*◌, ◌%◌, ◌^◌, ◌==◌, ◌≡◌, Bool, cond, Option, Some, None}
+use Rattle.std.specs.Prelude.{ℕ, ◌+◌, ◌*◌, ◌%◌, ◌^◌, ◌==◌, ◌≡◌, cond, Option, Some, None}
 use Rattle.rv_core.specs.Acts.{Acts}
 use Rattle.rv_core.specs.Registers.{Regs, x_of, writes, goes_on, plus}
 use Rattle.rv_core.specs.declared.instructions.Instr.{Instr}

@@ -1,5 +1,5 @@
 -- The registers of one hart (RISC-V unprivileged, RV32I, 2.1; the reservation: "A", Load-Reserved/Store-Conditional).
-use Rattle.std.specs.Prelude.{ℕ, ◌+◌, ◌%◌, ◌^◌, ◌<◌, ◌≡◌, ◌==◌, Bool, List, ℤ, slice_index, slice_set, if◌then◌else◌}
+use Rattle.std.specs.Prelude.{ℕ, ◌+◌, ◌%◌, ◌^◌, ◌≡◌, ◌==◌, Bool, List, ℤ, slice_index, slice_set, if◌then◌else◌}
 use Rattle.std.specs.Int.{w32, cast_unsigned}
 
 -- the program counter, x0 to x31, whether an address is reserved, and the address that was reserved last

@@ -1,5 +1,5 @@
 -- The instruction table (RISC-V unprivileged, RV32I, 2.2 to 2.6): rows of mask, value and reader.
-use Rattle.std.specs.Prelude.{ℕ, ◌+◌, ◌-◌, ◌*◌, ◌/◌, ◌%◌, ◌^◌, ◌<◌, ◌==◌, Bool, true, false, cond, not, ◌&&◌, nat_lt, List, [], ◌∷◌, ℤ, pos, ◌-ℤ◌, ◌≤ℤ◌, ◌<ℤ◌, bit_and, Option, Some, None}
+use Rattle.std.specs.Prelude.{ℕ, ◌+◌, ◌-◌, ◌*◌, ◌/◌, ◌%◌, ◌^◌, ◌<◌, ◌==◌, Bool, cond, nat_lt, List, [], ◌∷◌, ℤ, pos, ◌-ℤ◌, ◌≤ℤ◌, ◌<ℤ◌, bit_and, Option, Some, None}
 use Rattle.rv_core.specs.declared.instructions.Instr.{Instr}
 use Rattle.rv_core.specs.declared.instructions.Instr.TheVariants.{Lui, Auipc, Jal, Addi, Lw, Sw}
 
