@@ -1,0 +1,4 @@
+pub mod Acts
+pub mod Registers
+pub mod Table
+pub mod Effect

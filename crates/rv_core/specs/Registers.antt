@@ -1,0 +1,31 @@
+-- The registers of one hart (RISC-V unprivileged, RV32I, 2.1; the reservation: "A", Load-Reserved/Store-Conditional).
+use Rattle.std.specs.Prelude.{ℕ, ◌+◌, ◌%◌, ◌^◌, ◌≡◌, ◌==◌, Bool, List, ℤ, slice_index, slice_set, if◌then◌else◌}
+use Rattle.std.specs.Int.{w32, cast_unsigned}
+
+-- the program counter, x0 to x31, whether an address is reserved, and the address that was reserved last
+pub record Regs : Type 0 where
+  pub pc : ℕ
+  pub x : List ℕ
+  pub reserved : Bool
+  pub address : ℕ
+
+-- what holds of the registers at every moment: x0 is 0, and the program counter is a multiple of 4
+pub record IsHart (h : Regs) : Type 0 where
+  pub x0 : slice_index h.x 0 ≡ 0
+  pub aligned : h.pc % 4 ≡ 0
+
+-- the register x with the number k
+abbrev pub x_of : Regs → ℕ → ℕ
+x_of h k = slice_index h.x k
+
+-- the registers after a write of v to the register rd; a write to x0 is dropped
+abbrev pub writes : Regs → ℕ → ℕ → Regs
+writes h rd v = record h { x = if rd == 0 then h.x else slice_set h.x rd v }
+
+-- the registers with the program counter behind this instruction
+abbrev pub goes_on : Regs → Regs
+goes_on h = record h { pc = (h.pc + 4) % 2 ^ 32 }
+
+-- a word plus a signed number, modulo 2^32
+abbrev pub plus : ℕ → ℤ → ℕ
+plus a z = (a + cast_unsigned w32 z) % 2 ^ 32

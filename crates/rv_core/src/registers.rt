@@ -1,0 +1,147 @@
+//! The registers of one hart.
+
+ghost use Rattle.std.specs.Prelude.{◌≡◌, ◌%◌, ◌<◌, false, replicate, slice_index};
+ghost use Rattle.rv_core.specs.Registers.{Regs, x_of, writes};
+ghost use Rattle.rv_core.specs.Effect.{done, quiet, jumps};
+
+use std::marker::Model;
+
+/// The cause of a jump to an address that is no multiple of 4.
+const MISALIGNED_JUMP: u32 = 0;
+
+/// How an instruction ended: it is over, or it traps with a cause and a value (RISC-V privileged,
+/// mcause and mtval). A trap has changed no register and no memory.
+#[derive(Clone, Copy, Debug, PartialEq, Eq)]
+pub enum Outcome {
+    Next,
+    Trap { cause: u32, value: u32 },
+}
+
+/// The registers of one hart: the program counter, x0 to x31, and the reservation of LR and SC.
+///
+/// Contracts see it as a record `Regs`. At every moment x0 is 0 and the program counter is a multiple
+/// of 4.
+#[derive(Drop)]
+pub struct Hart {
+    pc: u32,
+    x: [u32; 32],
+    reserved: bool,
+    address: u32,
+}
+
+impl Model for Hart {
+    ghost use Rattle.rv_core.specs.Registers.{Regs, IsHart};
+
+    ghost Value = { Regs };
+
+    ghost view = { λ h. record { pc = h.pc; x = h.x; reserved = h.reserved; address = h.address } };
+
+    ghost invariant = { λ h. IsHart (record { pc = h.pc; x = h.x; reserved = h.reserved; address = h.address }) };
+}
+
+impl Hart {
+    /// A hart at `pc`, a multiple of 4, with 0 in each register and no reservation.
+    pub fn new(pc: u32) -> Hart
+        requires { pc % 4 ≡ 0 }
+        ensures { result ≡ record { pc = pc; x = replicate 32 0; reserved = false; address = 0 } }
+    {
+        Hart {
+            pc,
+            x: [0; 32],
+            reserved: false,
+            address: 0,
+        }
+    }
+
+    /// The register x with the number `k`, below 32.
+    pub fn reg(&self, k: u32) -> u32
+        requires { k < 32 }
+        ensures value { result ≡ slice_index self.now.x k }
+        ensures x0 { k ≡ 0 → result ≡ 0 }
+    {
+        self.x[k as usize]
+    }
+
+    /// The program counter, a multiple of 4.
+    pub fn pc(&self) -> u32
+        ensures value { result ≡ self.now.pc }
+        ensures aligned { result % 4 ≡ 0 }
+    {
+        self.pc
+    }
+
+    /// Goes to `pc`, a multiple of 4, and forgets the reservation, as the entry of a trap does.
+    pub fn enter(&mut self, pc: u32)
+        requires { pc % 4 ≡ 0 }
+        ensures { self.new ≡ record self.old { pc = pc; reserved = false } }
+    {
+        self.pc = pc;
+        self.reserved = false;
+    }
+
+    /// Forgets the reservation.
+    pub fn unreserve(&mut self)
+        ensures { self.new ≡ record self.old { reserved = false } }
+    {
+        self.reserved = false;
+    }
+
+    /// The register with the number `k`, below 32.
+    #[inline(always)]
+    pub(crate) fn at(&self, k: u8) -> u32
+        requires { k < 32 }
+        ensures { result ≡ x_of self.now k }
+    {
+        self.x[k as usize]
+    }
+
+    /// Writes `value` to the register `rd`, but nothing to x0.
+    #[inline(always)]
+    fn write(&mut self, rd: u8, value: u32)
+        requires { rd < 32 }
+        ensures { self.new ≡ writes self.old rd value }
+    {
+        if rd != 0 {
+            self.x[rd as usize] = value;
+        }
+    }
+
+    /// Writes `value` to the register `rd`, but nothing to x0, and goes on behind the instruction.
+    #[inline(always)]
+    pub(crate) fn put(&mut self, rd: u8, value: u32) -> Outcome
+        requires { rd < 32 }
+        ensures { done result self.new ≡ quiet (writes self.old rd value) }
+    {
+        self.write(rd, value);
+        self.pc = self.pc.wrapping_add(4);
+        Outcome::Next
+    }
+
+    /// Goes on behind the instruction.
+    #[inline(always)]
+    pub(crate) fn go_on(&mut self) -> Outcome
+        ensures { done result self.new ≡ quiet self.old }
+    {
+        self.pc = self.pc.wrapping_add(4);
+        Outcome::Next
+    }
+
+    /// Jumps to `target`, and leaves the address behind the jump in `rd`. A target that is no multiple
+    /// of 4 traps.
+    #[inline(always)]
+    pub(crate) fn jump(&mut self, rd: u8, target: u32) -> Outcome
+        requires { rd < 32 }
+        ensures { done result self.new ≡ jumps self.old rd target }
+    {
+        if target % 4 != 0 {
+            return Outcome::Trap {
+                cause: MISALIGNED_JUMP,
+                value: target,
+            };
+        }
+        let link = self.pc.wrapping_add(4);
+        self.write(rd, link);
+        self.pc = target;
+        Outcome::Next
+    }
+}
