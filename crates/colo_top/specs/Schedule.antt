@@ -1,0 +1,21 @@
+-- A schedule of primary turns as text: lines `P d i b n`, each ended by a newline. Words are parted by one
+-- space, and numbers are decimal without sign or needless zeros.
+use Rattle.std.specs.Prelude.{◌≡◌, ℕ, ◌≤◌, ◌<◌, ◌^◌, List, [], ◌∷◌, ◌++◌, codes, decimal, All, Bool, if◌then◌else◌}
+use Rattle.colo_top.specs.declared.schedule.Turn.{Turn}
+
+-- the numbers that a line may have
+pub record IsGood (turn : Turn) : Type 0 where
+  pub ticks : turn.ticks < 2 ^ 32
+  pub requests : turn.requests ≤ 256
+  pub steps : turn.steps ≤ 100000
+
+-- 0 or 1
+abbrev pub flag : Bool → ℕ
+flag b = if b then 1 else 0
+
+-- the line without its newline
+unfoldable pub line_words : Turn → List ℕ
+line_words t = codes "P " ++ (decimal t.ticks ++ (32 ∷ (decimal (flag t.receives) ++ (32 ∷ (decimal t.requests ++ (32 ∷ decimal t.steps))))))
+
+unfoldable pub line_text : Turn → List ℕ
+line_text t = line_words t ++ (10 ∷ [])
