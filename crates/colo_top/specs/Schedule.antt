@@ -1,6 +1,6 @@
 -- A schedule of primary turns as text: lines `P d i b n`, each ended by a newline. Words are parted by one
 -- space, and numbers are decimal without sign or needless zeros.
-use Rattle.std.specs.Prelude.{◌≡◌, ℕ, ◌≤◌, ◌<◌, ◌^◌, List, [], ◌∷◌, ◌++◌, codes, decimal, All, Bool, if◌then◌else◌}
+use Rattle.std.specs.Prelude.{◌≡◌, ℕ, ◌≤◌, ◌<◌, ◌^◌, List, [], ◌∷◌, ◌++◌, codes, decimal, All, flat_map, Bool, if◌then◌else◌}
 use Rattle.colo_top.specs.declared.schedule.Turn.{Turn}
 
 -- the numbers that a line may have
@@ -19,3 +19,12 @@ line_words t = codes "P " ++ (decimal t.ticks ++ (32 ∷ (decimal (flag t.receiv
 
 unfoldable pub line_text : Turn → List ℕ
 line_text t = line_words t ++ (10 ∷ [])
+
+-- the text of a schedule is that of its lines, in order
+unfoldable pub schedule_text : List Turn → List ℕ
+schedule_text turns = flat_map line_text turns
+
+-- a text is the schedule of these turns
+pub record IsSchedule (turns : List Turn) (text : List ℕ) : Type 0 where
+  pub good : All IsGood turns
+  pub spelled : text ≡ schedule_text turns

@@ -1,9 +1,10 @@
 //! The schedule as text.
 
-ghost use Rattle.std.specs.Prelude.{◌≡◌, ◌++◌, ◌∷◌, List, ℕ, IfSome, IsSomeAnd};
-ghost use Rattle.colo_top.specs.Schedule.{IsGood, line_text};
+ghost use Rattle.std.specs.Prelude.{◌≡◌, ◌++◌, ◌∷◌, List, ℕ, IfOk, IfSome, IfNone, IsSomeAnd};
+ghost use Rattle.colo_top.specs.Schedule.{IsGood, IsSchedule, line_text};
 
 use crate::number::number_before;
+use std::alloc::{AllocError, Global};
 
 /// One turn of the primary, as a line `P d i b n` of a schedule gives it.
 #[derive(Clone, Copy)]
@@ -31,7 +32,7 @@ fn after_primary(text: &[u8]) -> Option<&[u8]>
 }
 
 /// The line that the text begins with, and what follows it; `None` exactly where it begins with no good line.
-pub fn read_line(text: &[u8]) -> Option<(Turn, &[u8])>
+fn read_line(text: &[u8]) -> Option<(Turn, &[u8])>
     ensures good { IfSome result (λ r. IsGood r.0) }
     ensures written { IfSome result (λ r. text.now ≡ line_text r.0 ++ r.1.now) }
     ensures each { (turn : Turn) (after : List ℕ) → IsGood turn → text.now ≡ line_text turn ++ after → IsSomeAnd result (λ r. (r.0 ≡ turn) × (r.1.now ≡ after)) }
@@ -42,4 +43,21 @@ pub fn read_line(text: &[u8]) -> Option<(Turn, &[u8])>
     let (requests, rest) = number_before(rest, b' ', 256)?;
     let (steps, rest) = number_before(rest, b'\n', 100_000)?;
     Some((Turn { ticks, receives: receives == 1, requests, steps }, rest))
+}
+
+/// The turns whose schedule the text is; `None` exactly where it is that of none.
+pub fn read_schedule(alloc: Global, text: &[u8]) -> Result<Option<Vec<Turn>>, AllocError>
+    ensures good { IfOk result (λ r. IfSome r (λ turns. IsSchedule turns.items text.now)) }
+    ensures none { IfOk result (λ r. IfNone r ((turns : List Turn) → IsSchedule turns text.now → ⊥)) }
+{
+    let mut turns = Vec::new(alloc);
+    let mut rest = text;
+    while !rest.is_empty() {
+        let Some((turn, after)) = read_line(rest) else {
+            return Ok(None);
+        };
+        turns.push(turn)?;
+        rest = after;
+    }
+    Ok(Some(turns))
 }

@@ -1,0 +1,12 @@
+-- The turns read so far and what is left spell the text, and each schedule that the text is has one of what is left.
+use Rattle.std.proofs.Common.{◌≡◌, ◌++◌, List, All, length}
+use Rattle.colo_top.specs.declared.schedule.Turn.{Turn}
+use Rattle.colo_top.specs.Schedule.{IsGood, IsSchedule, schedule_text}
+use Rattle.colo_top.proofs.schedule.read_schedule.Given as goal
+use Rattle.colo_top.proofs.ScheduleText.{IsReadTo}
+
+abbrev pub invariant-loop-rest : goal.invariant-loop-rest
+invariant-loop-rest l = IsReadTo l.turns.items l.text l.rest
+
+abbrev pub decreases-loop-rest : goal.decreases-loop-rest
+decreases-loop-rest l = length l.rest
