@@ -4,3 +4,5 @@ pub mod Link
 pub mod Sink
 pub mod Clock
 pub mod Bytes
+pub mod Plan
+pub mod InMemory
