@@ -1,5 +1,11 @@
 -- What the objects in memory mean.
-use Rattle.std.specs.Prelude.{◌≡◌, ℕ, true, List, Option, Some, option_map}
+use Rattle.std.specs.Prelude.{◌≡◌, ℕ, Bool, true, List, [], ◌∷◌, Option, Some, option_map, length, min, if◌then◌else◌, ◌==◌}
+use Rattle.colo_base.specs.Link.{LinkState, Answer, bytes, quiet, ended}
+use Rattle.colo_base.specs.Script.{passed}
+use Rattle.colo_base.specs.declared.memory_link.Reply.{Reply}
+use Rattle.colo_base.specs.declared.memory_link.Reply.TheVariants as reply
+use Rattle.colo_base.specs.declared.outside.Heard.{Heard}
+use Rattle.colo_base.specs.declared.outside.Heard.TheVariants as heard
 use Rattle.std.specs.BTreeMap.{get_by_text}
 use Rattle.colo_base.specs.Shelf.{ShelfState}
 use Rattle.colo_base.specs.declared.memory_shelf.MemoryShelf.{MemoryShelf}
@@ -18,7 +24,7 @@ sink_state sink = record { told = true; bytes = sink.bytes; faults = sink.faults
 
 -- the contents of each name; None where there is no such file
 abbrev pub contents_of : MemoryShelf → List ℕ → Option (List ℕ)
-contents_of shelf name = option_map (λ bytes. bytes.items) (get_by_text shelf.files name)
+contents_of shelf name = option_map (λ held. held.items) (get_by_text shelf.files name)
 
 -- a shelf in memory tells its contents, and keeps one count of a kind for all names
 abbrev pub shelf_state : MemoryShelf → ShelfState
@@ -43,3 +49,47 @@ pub record IsSame (old new : MemoryShelf) : Type 0 where
   pub plan : plan_of new ≡ plan_of old
   pub fetch_faults : new.fetch_faults ≡ old.fetch_faults
   pub write_faults : new.write_faults ≡ old.write_faults
+
+-- an answer that a link in memory keeps
+abbrev pub answer_of : Reply → Answer
+answer_of (reply.Bytes taken) = bytes taken.items
+answer_of reply.Quiet = quiet
+answer_of reply.Ended = ended
+
+-- a link in memory: what is to come, what it answered and sent, the plan of its failing calls, and its counts
+pub record LinkParts : Type 0 where
+  pub coming : List (List ℕ)
+  pub answers : List Answer
+  pub sent : List ℕ
+  pub opened : Bool
+  pub plan : PlanState
+  pub open_faults : ℕ
+  pub receive_faults : ℕ
+  pub send_faults : ℕ
+  pub quiets : ℕ
+
+-- it tells its answers and what it sent, and keeps one count of failed opens for all addresses
+abbrev pub link_state : LinkParts → LinkState
+link_state link =
+    record {
+      told = true;
+      opened = link.opened;
+      answers = link.answers;
+      sent = link.sent;
+      open_faults = λ address. link.open_faults;
+      receive_faults = link.receive_faults;
+      send_faults = link.send_faults;
+      quiets = link.quiets;
+    }
+
+-- What a receive hears of what is to come, into so much room: of the oldest piece as many bytes as there is room for;
+-- that none has come where that piece has no bytes; and the end where no piece is left.
+abbrev pub heard_of : List (List ℕ) → ℕ → Heard
+heard_of [] room = heard.Ended
+heard_of (piece ∷ pieces) room =
+    if length piece == 0 then heard.Quiet else heard.Took (min (length piece) room)
+
+-- what is to come after it
+abbrev pub left_of : List (List ℕ) → ℕ → List (List ℕ)
+left_of [] room = []
+left_of (piece ∷ pieces) room = passed (min (length piece) room) (piece ∷ pieces)

@@ -5,4 +5,5 @@ pub mod Sink
 pub mod Clock
 pub mod Bytes
 pub mod Plan
+pub mod Script
 pub mod InMemory
