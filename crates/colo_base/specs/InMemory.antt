@@ -1,5 +1,7 @@
 -- What the objects in memory mean.
-use Rattle.std.specs.Prelude.{◌≡◌, ℕ, Bool, true, List, [], ◌∷◌, Option, Some, option_map, length, min, if◌then◌else◌, ◌==◌}
+use Rattle.std.specs.Prelude.{◌≡◌, ℕ, ◌-◌, Bool, true, List, [], ◌∷◌, Option, Some, option_map, length, min, if◌then◌else◌, ◌==◌, slice_index, map}
+use Rattle.std.specs.List.{range_with_len}
+use Rattle.colo_base.specs.Clock.{ClockState}
 use Rattle.colo_base.specs.Link.{LinkState, Answer, bytes, quiet, ended}
 use Rattle.colo_base.specs.Script.{passed}
 use Rattle.colo_base.specs.declared.memory_link.Reply.{Reply}
@@ -93,3 +95,18 @@ heard_of (piece ∷ pieces) room =
 abbrev pub left_of : List (List ℕ) → ℕ → List (List ℕ)
 left_of [] room = []
 left_of (piece ∷ pieces) room = passed (min (length piece) room) (piece ∷ pieces)
+
+-- a clock over a list of numbers, and how many it gave
+pub record ClockParts : Type 0 where
+  pub script : List ℕ
+  pub count : ℕ
+
+-- The number that it gives at the k-th reading, counted from 0: from the end of its list on the last one, and 0 where
+-- the list is empty.
+abbrev pub tick_at : List ℕ → ℕ → ℕ
+tick_at script k = slice_index script (min k (length script - 1))
+
+-- it tells the numbers that it gave
+abbrev pub clock_state : ClockParts → ClockState
+clock_state clock =
+    record { told = true; given = map (tick_at clock.script) (range_with_len 0 clock.count) }
