@@ -17,7 +17,7 @@ pub fn decode(word: u32) -> Option<Instr>
 
     // No two rows fit a word, and the one that does is the one that is read.
     ensures one_row { HasAtMostOneRow word }
-    ensures row { (row : Row) → Contains table row → IsTrue (fits row word) → result ≡ Some (row.read word) }
+    ensures row { (r : Row) → Contains table r → IsTrue (fits r word) → result ≡ Some (r.read word) }
     ensures none { result ≡ None → All (λ row. fits row word ≡ false) table }
 
     // What a word says is within its fields.
