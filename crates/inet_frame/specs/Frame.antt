@@ -1,6 +1,6 @@
 -- What a frame is: the fields of a TCP, ARP or UDP frame, or the first of twelve reasons to drop it.
 use Rattle.std.specs.Prelude.{◌≡◌, ◌≤◌, ℕ, ◌+◌, ◌-◌, Bool, not, ◌&&◌, ◌||◌, ◌==◌, nat_lt, if◌then◌else◌, List, [], ◌∷◌, length, slice_index, slice_range, Option, None, Some}
-use Rattle.inet_frame.specs.Fields.{tcp_fields, udp_fields, arp_fields}
+use Rattle.inet_frame.specs.Fields.{TcpFields, HoldsTcp, tcp_fields, udp_fields, arp_fields}
 use Rattle.inet_frame.specs.Place.{two_at, frame_type, version, header_len, total_len, fragment_field, protocol, header_end, datagram_end, data_offset}
 use Rattle.inet_frame.specs.Sum.{ones_sum, pseudo_sum}
 use Rattle.inet_frame.specs.declared.parser.Seen.{Seen}
@@ -79,13 +79,21 @@ abbrev pub first_of : List (ℕ × Bool) → Option ℕ
 first_of [] = None
 first_of (test ∷ tests) = if test.1 then Some test.0 else first_of tests
 
+-- the reasons to drop a frame, in order
+abbrev pub drop_tests : List ℕ → List (ℕ × Bool)
+drop_tests b = (1, is_short b) ∷ (2, is_long b) ∷ (3, is_other_type b) ∷ (4, is_bad_arp b) ∷ (5, is_bad_ip b) ∷ (6, is_bad_header_sum b) ∷ (7, is_fragment b) ∷ (8, is_other_protocol b) ∷ (9, is_bad_tcp b) ∷ (10, is_bad_tcp_sum b) ∷ (11, is_bad_udp b) ∷ (12, is_bad_udp_sum b) ∷ []
+
 -- the number of the first reason to drop a frame
 abbrev pub drop_number : List ℕ → Option ℕ
-drop_number b = first_of ((1, is_short b) ∷ (2, is_long b) ∷ (3, is_other_type b) ∷ (4, is_bad_arp b) ∷ (5, is_bad_ip b) ∷ (6, is_bad_header_sum b) ∷ (7, is_fragment b) ∷ (8, is_other_protocol b) ∷ (9, is_bad_tcp b) ∷ (10, is_bad_tcp_sum b) ∷ (11, is_bad_udp b) ∷ (12, is_bad_udp_sum b) ∷ [])
+drop_number b = first_of (drop_tests b)
+
+-- the fields of the TCP segment in a frame
+abbrev pub fields_in : List ℕ → TcpFields
+fields_in b = tcp_fields b (header_end b) (datagram_end b)
 
 -- a frame that no test drops
 abbrev pub kept : List ℕ → Seen
-kept b = if is_arp b then Arp (arp_fields b) else (if is_tcp b then Tcp (tcp_fields b (header_end b) (datagram_end b)) else Udp (udp_fields b (header_end b) (datagram_end b)))
+kept b = if is_arp b then Arp (arp_fields b) else (if is_tcp b then Tcp (fields_in b) else Udp (udp_fields b (header_end b) (datagram_end b)))
 
 abbrev pub seen_by : List ℕ → Option ℕ → Seen
 seen_by b None = kept b
@@ -115,3 +123,9 @@ pub record IsDatagram (b : List ℕ) (h e kind : ℕ) : Type 0 where
   pub begins : h ≡ header_end b
   pub ends : e ≡ datagram_end b
   pub protocol_is : protocol b ≡ kind
+
+-- a frame that holds a whole TCP segment with a right checksum
+pub record IsSegment (b : List ℕ) : Type 0 where
+  pub datagram : IsDatagram b (header_end b) (datagram_end b) 6
+  pub holds : HoldsTcp b (header_end b) (datagram_end b)
+  pub sum_is : transport_sum b ≡ 0xFFFF

@@ -15,8 +15,10 @@
 #![tactic(auto)]
 
 mod arp;
+pub mod flag;
+mod options;
 mod parser;
-mod place;
+pub mod place;
 mod sum;
 mod tcp;
 mod tuple;
@@ -24,6 +26,7 @@ mod udp;
 mod why;
 
 pub use arp::{ArpView, arp_reply};
+pub use options::option_len;
 pub use parser::{Seen, parse};
 pub use sum::{ones_sum, pseudo_sum};
 pub use tcp::TcpView;

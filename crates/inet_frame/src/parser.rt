@@ -2,7 +2,7 @@ ghost use Rattle.std.specs.Prelude.{◌≡◌, ◌≤◌, length};
 ghost use Rattle.inet_frame.specs.Frame.{seen_of, IsOfType, IsDatagram, transport_sum, is_other_arp};
 
 use crate::arp::ArpView;
-use crate::place::{data_offset, header_len, two};
+use crate::place::{data_offset, header_len, total_len, two};
 use crate::sum::{ones_sum, pseudo_sum};
 use crate::tcp::TcpView;
 use crate::udp::UdpView;
@@ -81,7 +81,7 @@ fn ipv4<'a>(frame: &'a [u8]) -> Seen<'a>
         return Seen::Other(Why::BAD_IPV4);
     }
     let header = header_len(frame);
-    let total = usize::from(two(frame, 16));
+    let total = total_len(frame);
     if header < 20 || total < header || frame.len() < 14 + total {
         return Seen::Other(Why::BAD_IPV4);
     }
