@@ -4,9 +4,21 @@
 mod cursor;
 mod fault;
 mod frame_list;
+mod memory_link;
+mod memory_shelf;
+mod memory_sink;
 mod outside;
+mod plan;
+mod real;
+mod script;
+mod script_clock;
 
 pub use cursor::Fields;
 pub use fault::{Cause, Failed, NoMemory, Short};
 pub use frame_list::Frames;
+pub use memory_link::MemoryLink;
+pub use memory_shelf::MemoryShelf;
+pub use memory_sink::MemorySink;
 pub use outside::{Clock, Heard, Link, Shelf, ShelfFault, Sink};
+pub use real::{FileShelf, OutSink};
+pub use script_clock::ScriptClock;

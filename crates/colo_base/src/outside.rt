@@ -10,6 +10,7 @@ ghost use Rattle.std.specs.Io.{StartsWith};
 ghost use Rattle.colo_base.specs.Count.{Rose};
 
 use crate::Failed;
+use std::alloc::{AllocError, AllocFailed};
 
 /// Why a call on a shelf did not do what it was asked.
 #[derive(Clone, Copy, Debug, PartialEq, Eq)]
@@ -18,6 +19,28 @@ pub enum ShelfFault {
     Failed,
     /// An allocation was refused.
     NoMemory,
+}
+
+impl From<AllocError> for ShelfFault {
+    ghost use Rattle.std.specs.Prelude.{◌≡◌};
+    ghost use Rattle.colo_base.specs.declared.outside.ShelfFault.TheVariants as variant;
+
+    ghost from_gives = { λ _ fault. fault ≡ variant.NoMemory };
+
+    fn from(_: AllocError) -> ShelfFault {
+        ShelfFault::NoMemory
+    }
+}
+
+impl<T: Drop> From<AllocFailed<T>> for ShelfFault {
+    ghost use Rattle.std.specs.Prelude.{◌≡◌};
+    ghost use Rattle.colo_base.specs.declared.outside.ShelfFault.TheVariants as variant;
+
+    ghost from_gives = { λ _ fault. fault ≡ variant.NoMemory };
+
+    fn from(_: AllocFailed<T>) -> ShelfFault {
+        ShelfFault::NoMemory
+    }
 }
 
 /// What a receive answers.
@@ -139,7 +162,8 @@ pub trait Sink {
 
 /// A clock that counts ticks.
 ///
-/// A clock means the numbers that it gave, where it tells them. It has no fault.
+/// A clock means the numbers that it gave, where it tells them, as long as they are fewer than 2^64 - 1. It has no
+/// fault.
 pub trait Clock {
     ghost use Rattle.colo_base.specs.Clock.{ClockState, Gives};
 

@@ -1,0 +1,3 @@
+pub mod OnesSum
+pub mod OptionWalk
+pub mod Segments

@@ -1,0 +1,47 @@
+//! Numbers at their places in a frame.
+
+ghost use Rattle.std.specs.Prelude.{◌≡◌, ◌+◌, ◌<◌, ◌≤◌, length};
+ghost use Rattle.inet_frame.specs.Place as spec;
+
+/// The 16-bit number at a place, in network order.
+pub fn two(bytes: &[u8], at: usize) -> u16
+    requires { at + 1 < length bytes.now }
+    ensures { result ≡ spec.two_at bytes.now at }
+{
+    u16::from_be_bytes([bytes[at], bytes[at + 1]])
+}
+
+/// The 32-bit number at a place, in network order.
+pub fn four(bytes: &[u8], at: usize) -> u32
+    requires { at + 3 < length bytes.now }
+    ensures { result ≡ spec.four_at bytes.now at }
+{
+    u32::from_be_bytes([bytes[at], bytes[at + 1], bytes[at + 2], bytes[at + 3]])
+}
+
+/// The length of the IPv4 header in bytes (RFC 791, 3.1).
+pub fn header_len(frame: &[u8]) -> usize
+    requires { 14 < length frame.now }
+    ensures value { result ≡ spec.header_len frame.now }
+    ensures at_most { result ≤ 60 }
+{
+    4 * usize::from(frame[14] % 16)
+}
+
+/// The length of the IPv4 datagram in bytes, header and payload (RFC 791, 3.1).
+pub fn total_len(frame: &[u8]) -> usize
+    requires { 17 < length frame.now }
+    ensures value { result ≡ spec.total_len frame.now }
+    ensures at_most { result < 65536 }
+{
+    usize::from(two(frame, 16))
+}
+
+/// The length of a TCP header that begins at `header_end`, in bytes (RFC 9293, 3.1).
+pub fn data_offset(frame: &[u8], header_end: usize) -> usize
+    requires { header_end + 12 < length frame.now }
+    ensures value { result ≡ spec.data_offset frame.now header_end }
+    ensures at_most { result ≤ 60 }
+{
+    4 * usize::from(frame[header_end + 12] / 16)
+}
