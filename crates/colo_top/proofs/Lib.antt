@@ -2,3 +2,4 @@ pub mod Numbers
 pub mod ScheduleText
 pub mod LogText
 pub mod WordTexts
+pub mod Writes

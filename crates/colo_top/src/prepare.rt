@@ -1,0 +1,44 @@
+//! What a replay runs, from the files that it reads.
+
+ghost use Rattle.std.specs.Prelude.{◌≡◌, IfOk, IfErr};
+ghost use Rattle.colo_top.specs.Ends.{IsReady};
+ghost use Rattle.colo_top.specs.InputTexts.{texts_of};
+ghost use Rattle.colo_top.specs.Refusal.{Refuses};
+
+use crate::fault::Fault;
+use crate::input::{Inputs, is_disk};
+use crate::machine::{BootFault, Machine};
+use crate::schedule::{Turn, read_schedule};
+use std::alloc::Global;
+
+/// A machine that stands at the image's boot state, and the turns that it is to make.
+#[derive(Drop)]
+pub struct Ready {
+    pub machine: Machine,
+    pub turns: Vec<Turn>,
+}
+
+/// The machine that the image boots.
+fn boot(alloc: Global, image: &[u8]) -> Result<Machine, Fault>
+{
+    match Machine::boot(alloc, image) {
+        Ok(machine) => Ok(machine),
+        Err(BootFault::Elf(fault)) => Err(Fault::Image(fault.number)),
+        Err(BootFault::NoMemory) => Err(Fault::NoMemory),
+    }
+}
+
+/// What the files make a replay run. The image is tested first.
+pub fn prepare(alloc: Global, inputs: &Inputs) -> Result<Ready, Fault>
+    ensures ready { IfOk result (λ ready. IsReady (texts_of inputs.now) ready.turns.items ready.machine) }
+    ensures refused { IfErr result (Refuses (texts_of inputs.now)) }
+{
+    let machine = boot(alloc, &inputs.image)?;
+    if !is_disk(&inputs.disk) || !inputs.client.is_empty() {
+        return Err(Fault::NotBuilt);
+    }
+    match read_schedule(alloc, &inputs.schedule)? {
+        Some(turns) => Ok(Ready { machine, turns }),
+        None => Err(Fault::NotBuilt),
+    }
+}
