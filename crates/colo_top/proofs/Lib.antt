@@ -1,2 +1,4 @@
 pub mod Numbers
 pub mod ScheduleText
+pub mod Steps
+pub mod Starts

@@ -1,7 +1,9 @@
 //! The top call of the pair: commands, their files and their statuses.
 #![tactic(auto)]
 
+mod machine;
 mod number;
+mod ram;
 mod schedule;
 
 pub use schedule::{Turn, read_line};
