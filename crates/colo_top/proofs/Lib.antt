@@ -1,3 +1,6 @@
+pub mod Boards
+pub mod Steps
+pub mod Starts
 pub mod Numbers
 pub mod ScheduleText
 pub mod LogText

@@ -1,3 +1,10 @@
+pub mod Memory
+pub mod Clint
+pub mod Board
+pub mod BoardLaws
+pub mod Devices
+pub mod Machine
+pub mod Boot
 pub mod Schedule
 pub mod Words
 pub mod Command
@@ -5,3 +12,10 @@ pub mod Log
 pub mod Idle
 pub mod Files
 pub mod Steps
+pub mod Run
+pub mod Inputs
+pub mod InputTexts
+pub mod Refusal
+pub mod RunSteps
+pub mod Ends
+pub mod Top

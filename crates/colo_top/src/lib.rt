@@ -1,12 +1,17 @@
 //! The top call of the pair: commands, their files and their statuses.
 #![tactic(auto)]
 
+mod board;
+mod clint;
+mod devices;
 mod fault;
 mod input;
 mod log;
+mod machine;
 mod number;
 mod output;
 mod prepare;
+mod ram;
 mod run;
 mod schedule;
 mod top;
