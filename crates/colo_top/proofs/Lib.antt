@@ -1,4 +1,3 @@
 pub mod Numbers
 pub mod ScheduleText
-pub mod Steps
-pub mod Starts
+pub mod Boards

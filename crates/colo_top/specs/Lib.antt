@@ -1,5 +1,5 @@
 pub mod Schedule
 pub mod Memory
-pub mod Machine
-pub mod MemoryLaws
-pub mod Boot
+pub mod Clint
+pub mod Board
+pub mod BoardLaws

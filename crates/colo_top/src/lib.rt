@@ -1,7 +1,8 @@
 //! The top call of the pair: commands, their files and their statuses.
 #![tactic(auto)]
 
-mod machine;
+mod board;
+mod clint;
 mod number;
 mod ram;
 mod schedule;
