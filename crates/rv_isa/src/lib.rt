@@ -2,8 +2,10 @@
 #![tactic(auto)]
 
 mod decoder;
+mod encoder;
 mod fields;
 mod instr;
 
 pub use decoder::decode;
+pub use encoder::encode;
 pub use instr::Instr;
