@@ -1,6 +1,6 @@
 -- What the control and status registers of the one hart hold, with the timer and the lines that raise interrupts.
 -- RISC-V privileged, machine-level ISA, 3.1 (machine-level CSRs) and 3.2 (machine-level memory-mapped registers).
-use Rattle.std.specs.Prelude.{◌≡◌, ℕ, ◌<◌, ◌+◌, ◌*◌, ◌/◌, ◌%◌, ◌^◌, Bool, true, false, cond, ◌==◌, bit_and}
+use Rattle.std.specs.Prelude.{◌≡◌, ℕ, ◌<◌, ◌+◌, ◌*◌, ◌/◌, ◌%◌, ◌^◌, Bool, false, cond, ◌==◌, bit_and}
 
 -- msip is the software interrupt's line, mtime and mtimecmp the timer, steps the number of steps that were made, and
 -- external the line of the devices
@@ -26,7 +26,7 @@ is_set k w = w / 2 ^ k % 2 == 1
 abbrev pub status_of : Bool → Bool → ℕ
 status_of mie mpie = 0x1800 + cond mie 8 0 + cond mpie 0x80 0
 
--- the word whose other bits read as they are held
+-- what mstatus holds of a word that is written
 abbrev pub status_held : ℕ → ℕ
 status_held w = status_of (is_set 3 w) (is_set 7 w)
 
@@ -42,14 +42,14 @@ vector_held w = bit_and w 0xFFFFFFFD
 abbrev pub address_held : ℕ → ℕ
 address_held w = w / 4 * 4
 
--- what these four hold
+-- what these four registers can hold
 pub record AreHeld (mstatus mie mtvec mepc : ℕ) : Type 0 where
   pub status : mstatus ≡ status_held mstatus
   pub enables : enables_held mie ≡ mie
   pub vector : is_set 1 mtvec ≡ false
   pub address : mepc % 4 ≡ 0
 
--- words of 32 bits
+-- the registers that hold any word, up to a bit or two, are words of 32 bits
 pub record AreWords (mtvec mscratch mepc mcause mtval : ℕ) : Type 0 where
   pub vector : mtvec < 2 ^ 32
   pub scratch : mscratch < 2 ^ 32

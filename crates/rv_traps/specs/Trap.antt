@@ -1,11 +1,11 @@
 -- The due interrupt, the entry of a trap and the return from it.
 -- RISC-V privileged, 3.1.6.1 (privilege and interrupt-enable stack), 3.1.7 (mtvec), 3.1.9 (mip and mie), 3.1.15 (mcause),
 -- 3.3.2 (MRET).
-use Rattle.std.specs.Prelude.{ℕ, ◌+◌, ◌-◌, ◌*◌, ◌/◌, ◌%◌, ◌^◌, Bool, true, false, cond, ◌&&◌, List, [], ◌∷◌, Option, Some, None, bit_and}
+use Rattle.std.specs.Prelude.{ℕ, ◌+◌, ◌-◌, ◌*◌, ◌/◌, ◌%◌, ◌^◌, true, false, cond, ◌&&◌, List, [], ◌∷◌, Option, None, bit_and}
 use Rattle.std.specs.List.{find}
 use Rattle.std.specs.Option.{option_map}
 use Rattle.rv_traps.specs.CsrState.{CsrState, is_set, status_of}
-use Rattle.rv_traps.specs.CsrTable.{pending_of}
+use Rattle.rv_traps.specs.CsrTable.{mip_of}
 
 -- the interrupts in their order: external, software, timer
 abbrev pub order : List ℕ
@@ -13,7 +13,7 @@ order = 11 ∷ 3 ∷ 7 ∷ []
 
 -- where MIE is 1, the cause of the first interrupt that mie and mip share, with bit 31 set
 unfoldable pub due : CsrState → Option ℕ
-due c = cond (is_set 3 c.mstatus) (option_map (λ k. 2 ^ 31 + k) (find (λ k. is_set k (bit_and c.mie (pending_of c))) order)) None
+due c = cond (is_set 3 c.mstatus) (option_map (λ k. 2 ^ 31 + k) (find (λ k. is_set k (bit_and c.mie (mip_of c))) order)) None
 
 -- mepc is the pc, mcause and mtval are set, MPIE becomes MIE, MIE becomes 0
 unfoldable pub entered : CsrState → ℕ → ℕ → ℕ → CsrState

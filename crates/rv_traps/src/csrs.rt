@@ -1,8 +1,9 @@
 //! The registers, call by call.
 
-ghost use Rattle.std.specs.Prelude.{◌≡◌, ◌<◌, ◌%◌, ◌^◌, IfSome, false};
+ghost use Rattle.std.specs.Prelude.{◌≡◌, ◌<◌, ◌%◌, ◌^◌, IfSome};
+ghost use Rattle.std.specs.Bool.{OnFalse};
 ghost use Rattle.rv_traps.specs.Fields.{IsHeld, fields_of, state_of};
-ghost use Rattle.rv_traps.specs.CsrTable.{read_of, written, is_writable, pending_of, low_half, high_half};
+ghost use Rattle.rv_traps.specs.CsrTable.{read_of, written, is_writable, mip_of, low_half, high_half};
 ghost use Rattle.rv_traps.specs.Trap.{due, entered, handler, returned, ticked, counted, started};
 
 use crate::fields::CsrFields;
@@ -105,6 +106,7 @@ impl Csrs {
     pub fn write(&mut self, number: u32, value: u32) -> bool
         ensures allowed { result ≡ is_writable number }
         ensures effect { self.new ≡ written self.old number value }
+        ensures refused { OnFalse result (self.new ≡ self.old) }
     {
         match number {
             MSTATUS => self.mstatus = words::status_held(value),
@@ -288,7 +290,7 @@ impl Csrs {
 
     /// `mip`: bit 3 is the software interrupt's line, bit 7 says that the time has come, bit 11 is the devices' line.
     fn mip(&self) -> u32
-        ensures { result ≡ pending_of self.now }
+        ensures { result ≡ mip_of self.now }
     {
         let software = if self.msip { 0x8 } else { 0 };
         let timer = if self.mtime >= self.mtimecmp { 0x80 } else { 0 };

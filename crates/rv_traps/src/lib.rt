@@ -5,6 +5,8 @@
 mod csrs;
 mod fields;
 mod numbers;
+#[cfg(test)]
+mod tests;
 mod words;
 
 pub use csrs::Csrs;
