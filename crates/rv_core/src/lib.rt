@@ -8,6 +8,8 @@ mod buses;
 mod control;
 mod execution;
 mod registers;
+#[cfg(test)]
+mod tests;
 
 pub use buses::Bus;
 pub use registers::{Hart, HartFields, Outcome};

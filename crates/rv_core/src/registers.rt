@@ -88,7 +88,7 @@ impl Hart {
         ensures { self.new ≡ record self.old { pc = pc; reserved = false } }
     {
         self.pc = pc;
-        self.reserved = false;
+        self.unreserve();
     }
 
     /// Forgets the reservation. The address that was reserved stays.
