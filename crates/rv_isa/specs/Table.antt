@@ -148,8 +148,8 @@ unfoldable pub decoded : ℕ → Option Instr
 decoded w = read_by table w
 
 -- no two rows of the table fit the word
-abbrev pub HasOneRow : ℕ → Type 0
-HasOneRow w = AllPairs (λ r s. ¬ (IsTrue (fits r w) × IsTrue (fits s w))) table
+abbrev pub HasAtMostOneRow : ℕ → Type 0
+HasAtMostOneRow w = AllPairs (λ r s. ¬ (IsTrue (fits r w) × IsTrue (fits s w))) table
 
 -- some word says this instruction
 pub record IsSpelled (i : Instr) : Type 0 where

@@ -7,8 +7,8 @@ ghost use Rattle.rv_isa.specs.Words.{upper_word, jump_word, immediate_word, bran
 
 use crate::instr::Instr;
 
-/// The one word that says an instruction. It asks that some word does: an instruction that `decode`
-/// gave, or one with each field within its range.
+/// The one word that says an instruction (RISC-V unprivileged, RV32I, 2.2 and 2.3). It asks that some
+/// word does, which holds of what `decode` gave and where each field is within its range.
 pub fn encode(instr: &Instr) -> u32
     requires { IsSpelled instr.now }
     ensures says { decoded result ≡ Some instr.now }

@@ -5,6 +5,8 @@ mod decoder;
 mod encoder;
 mod fields;
 mod instr;
+#[cfg(test)]
+mod tests;
 
 pub use decoder::decode;
 pub use encoder::encode;
