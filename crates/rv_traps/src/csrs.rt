@@ -11,7 +11,8 @@ use crate::numbers::*;
 use crate::words;
 use std::marker::Model;
 
-/// The control and status registers of the hart with its timer and the lines that raise interrupts.
+/// The control and status registers of the hart with its timer and the lines that raise interrupts
+/// (RISC-V privileged, 3.1 and 3.2.1).
 ///
 /// Contracts see it as a `CsrState`: the values of `CsrFields`, and what `external` set.
 #[derive(Drop)]
@@ -55,7 +56,8 @@ impl Model for Csrs {
 }
 
 impl Csrs {
-    /// The registers of a machine that starts: all 0 but `mstatus`, which is 0x1800, and `mtimecmp`, which is all ones.
+    /// The registers of a machine that starts (RISC-V privileged, 3.4): all 0 but `mstatus`, which is 0x1800, and
+    /// `mtimecmp`, which is all ones.
     #[tactic(auto, unfolding(crate::specs::Trap::started))]
     pub fn new() -> Csrs
         ensures { result ≡ started }
@@ -76,7 +78,7 @@ impl Csrs {
         }
     }
 
-    /// What CSR `number` reads. `None` exactly where there is no such CSR.
+    /// What CSR `number` reads (RISC-V privileged, 2.2 and 3.1). `None` exactly where there is no such CSR.
     #[tactic(auto, unfolding(crate::specs::CsrTable::read_of, crate::specs::CsrTable::row_at, crate::specs::CsrTable::table))]
     pub fn read(&self, number: u32) -> Option<u32>
         ensures value { result ≡ read_of self.now number }
@@ -100,8 +102,8 @@ impl Csrs {
         Some(value)
     }
 
-    /// Writes CSR `number`. `false` exactly where there is no such CSR or it is read-only; nothing changes then.
-    /// A write to `misa`, `mip` or a counter is ignored.
+    /// Writes CSR `number` (RISC-V privileged, 2.1 to 3.1). `false` exactly where there is no such CSR or it is
+    /// read-only; nothing changes then. A write to `misa`, `mip` or a counter is ignored.
     #[tactic(auto, unfolding(crate::specs::CsrTable::is_writable, crate::specs::CsrTable::written, crate::specs::CsrTable::write_at, crate::specs::CsrTable::row_at, crate::specs::CsrTable::table))]
     pub fn write(&mut self, number: u32, value: u32) -> bool
         ensures allowed { result ≡ is_writable number }
@@ -122,7 +124,8 @@ impl Csrs {
         true
     }
 
-    /// Enters the trap of this cause and value at `pc`, a multiple of 4. The result is the new pc.
+    /// Enters the trap of this cause and value at `pc`, a multiple of 4 (RISC-V privileged, 3.1.6.1 and 3.1.7). A cause
+    /// with bit 31 is an interrupt. The result is the new pc, a multiple of 4.
     #[tactic(auto, unfolding(crate::specs::Trap::entered, crate::specs::Trap::handler))]
     pub fn enter(&mut self, cause: u32, value: u32, pc: u32) -> u32
         requires { pc % 4 ≡ 0 }
@@ -143,7 +146,7 @@ impl Csrs {
         }
     }
 
-    /// Returns from a trap. The result is the new pc, which is `mepc`.
+    /// Returns from a trap (RISC-V privileged, 3.3.2). The result is the new pc, which is `mepc`, a multiple of 4.
     #[tactic(auto, unfolding(crate::specs::Trap::returned))]
     pub fn leave(&mut self) -> u32
         ensures effect { self.new ≡ returned self.old }
@@ -155,7 +158,7 @@ impl Csrs {
         self.mepc
     }
 
-    /// The cause of the due interrupt, with bit 31 set. `None` exactly where none is due.
+    /// The cause of the due interrupt, with bit 31 set (RISC-V privileged, 3.1.9). `None` exactly where none is due.
     #[tactic(auto, unfolding(crate::specs::Trap::due))]
     pub fn pending(&self) -> Option<u32>
         ensures value { result ≡ due self.now }
@@ -176,21 +179,21 @@ impl Csrs {
         }
     }
 
-    /// `mtime` goes on by `d` microseconds, modulo 2^64.
+    /// `mtime` goes on by `d` microseconds, modulo 2^64 (RISC-V privileged, 3.2.1).
     pub fn tick(&mut self, d: u64)
         ensures { self.new ≡ ticked self.old d }
     {
         self.mtime = self.mtime.wrapping_add(d);
     }
 
-    /// Sets the devices' line, bit 11 of `mip`.
+    /// Sets the devices' line, bit 11 of `mip` (RISC-V privileged, 3.1.9).
     pub fn external(&mut self, on: bool)
         ensures { self.new ≡ record self.old { external = on } }
     {
         self.external = on;
     }
 
-    /// The software interrupt's line, bit 3 of `mip`.
+    /// The software interrupt's line, bit 3 of `mip` (RISC-V privileged, 3.1.9).
     pub fn msip(&self) -> bool
         ensures { result ≡ self.now.msip }
     {
@@ -204,7 +207,7 @@ impl Csrs {
         self.msip = on;
     }
 
-    /// The time from which the timer's interrupt is pending.
+    /// The time in microseconds from which the timer's interrupt is pending (RISC-V privileged, 3.2.1).
     pub fn mtimecmp(&self) -> u64
         ensures { result ≡ self.now.mtimecmp }
     {
@@ -218,14 +221,14 @@ impl Csrs {
         self.mtimecmp = value;
     }
 
-    /// The time in microseconds.
+    /// The time in microseconds (RISC-V privileged, 3.2.1).
     pub fn mtime(&self) -> u64
         ensures { result ≡ self.now.mtime }
     {
         self.mtime
     }
 
-    /// Counts one step more, modulo 2^64.
+    /// Counts one step more, modulo 2^64, as `mcycle` and `minstret` read it (RISC-V privileged, 3.1.10).
     pub fn count(&mut self)
         ensures { self.new ≡ counted self.old }
     {
