@@ -1,0 +1,15 @@
+//! Loads an ELF32 executable for RISC-V into memory that begins at 0x80000000.
+#![tactic(auto)]
+
+mod boot;
+mod fault;
+mod file;
+mod header;
+mod placing;
+mod segments;
+
+pub use boot::load;
+pub use fault::ElfFault;
+
+#[cfg(test)]
+mod tests;
