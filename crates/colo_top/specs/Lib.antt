@@ -17,5 +17,6 @@ pub mod Inputs
 pub mod InputTexts
 pub mod Refusal
 pub mod RunSteps
+pub mod FaultLines
 pub mod Ends
 pub mod Top

@@ -1,5 +1,5 @@
 -- Why the files that were read make no run.
-use Rattle.std.specs.Prelude.{◌≡◌, Some, None}
+use Rattle.std.specs.Prelude.{◌≡◌, ℕ, List, Some, None}
 use Rattle.elf_load.specs.Boot.{elf_case}
 use Rattle.colo_top.specs.declared.fault.Fault.{Fault}
 use Rattle.colo_top.specs.declared.fault.Fault.TheVariants.{Image, Read, Write, NoMemory, NotBuilt}
@@ -13,3 +13,11 @@ Refuses texts Read = ⊥
 Refuses texts Write = ⊥
 Refuses texts NoMemory = Unit {0}
 Refuses texts NotBuilt = (elf_case ram_size texts.image ≡ None) × IsNotBuilt texts
+
+-- the first case of the loader that holds of the image, or want of memory
+abbrev pub RefusesImage : List ℕ → Fault → Type 0
+RefusesImage image (Image number) = elf_case ram_size image ≡ Some number
+RefusesImage image Read = ⊥
+RefusesImage image Write = ⊥
+RefusesImage image NoMemory = Unit {0}
+RefusesImage image NotBuilt = ⊥

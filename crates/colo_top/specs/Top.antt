@@ -1,5 +1,5 @@
 -- What the top call ends with.
-use Rattle.std.specs.Prelude.{◌≡◌, ℕ, List, [], ◌∷◌, ◌++◌, codes, decimal, Some, None, IsTrue, ◌⊎◌}
+use Rattle.std.specs.Prelude.{◌≡◌, ℕ, List, [], ◌∷◌, ◌++◌, codes, Some, None, IsTrue, ◌⊎◌}
 use Rattle.colo_base.specs.Shelf.{ShelfState, ChangesOnly}
 use Rattle.colo_base.specs.Sink.{SinkState, Puts, PutsPart}
 use Rattle.colo_base.specs.Count.{Rose}
@@ -7,6 +7,7 @@ use Rattle.elf_load.specs.Boot.{elf_case}
 use Rattle.colo_top.specs.declared.schedule.Turn.{Turn}
 use Rattle.colo_top.specs.Words.{Replay, Spells}
 use Rattle.colo_top.specs.Boot.{ram_size}
+use Rattle.colo_top.specs.FaultLines.{image_line}
 use Rattle.colo_top.specs.Machine.{State}
 use Rattle.colo_top.specs.Run.{run_from}
 use Rattle.colo_top.specs.Files.{IsOutput, WriteFailed}
@@ -20,9 +21,6 @@ IsStatus s = (s ≡ 0) ⊎ ((s ≡ 1) ⊎ ((s ≡ 2) ⊎ ((s ≡ 6) ⊎ ((s ≡ 
 -- the line was put, or a prefix of it where its put failed
 abbrev pub Prints : SinkState → SinkState → List ℕ → Type 0
 Prints old new line = Puts old new line ⊎ (PutsPart old new line × Rose old.faults new.faults)
-
-abbrev pub image_line : ℕ → List ℕ
-image_line number = codes "image: " ++ (decimal number ++ (10 ∷ []))
 
 -- the words spell no command
 abbrev pub IsMisspelled : List (List ℕ) → Type 0

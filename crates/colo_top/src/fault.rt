@@ -1,6 +1,8 @@
 //! Why a command ends with another status than 0.
 
-use colo_base::ShelfFault;
+ghost use Rattle.std.specs.Prelude.{◌≡◌, ◌≤◌};
+ghost use Rattle.colo_top.specs.FaultLines.{HasLine, image_line, line_of, status_of};
+
 use std::alloc::AllocError;
 
 /// Why a replay ends before its files are whole.
@@ -23,5 +25,56 @@ impl From<AllocError> for Fault {
 
     fn from(_: AllocError) -> Fault {
         Fault::NoMemory
+    }
+}
+
+impl Fault {
+    /// The status that the program ends with.
+    pub fn status(self) -> u8
+        ensures { result ≡ status_of self }
+    {
+        match self {
+            Fault::Image(_) => 2,
+            Fault::Read => 6,
+            Fault::Write => 7,
+            Fault::NoMemory => 8,
+            Fault::NotBuilt => 9,
+        }
+    }
+
+    /// The line that is printed, for a case of the loader from 1 to 12.
+    pub fn line(self) -> &'static str
+        requires { HasLine self }
+        ensures { result.now ≡ line_of self }
+    {
+        match self {
+            Fault::Image(number) => image_line_of(number),
+            Fault::Read => "read failed\n",
+            Fault::Write => "write failed\n",
+            Fault::NoMemory => "no memory\n",
+            Fault::NotBuilt => "not built\n",
+        }
+    }
+}
+
+/// The line of a case of the loader.
+fn image_line_of(number: u8) -> &'static str
+    requires some { 1 ≤ number }
+    requires within { number ≤ 12 }
+    ensures { result.now ≡ image_line number }
+{
+    match number {
+        1 => "image: 1\n",
+        2 => "image: 2\n",
+        3 => "image: 3\n",
+        4 => "image: 4\n",
+        5 => "image: 5\n",
+        6 => "image: 6\n",
+        7 => "image: 7\n",
+        8 => "image: 8\n",
+        9 => "image: 9\n",
+        10 => "image: 10\n",
+        11 => "image: 11\n",
+        _ => "image: 12\n",
     }
 }

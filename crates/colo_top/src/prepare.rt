@@ -1,9 +1,11 @@
 //! What a replay runs, from the files that it reads.
 
-ghost use Rattle.std.specs.Prelude.{◌≡◌, IfOk, IfErr};
+ghost use Rattle.std.specs.Prelude.{◌≡◌, Some, IfOk, IfErr};
+ghost use Rattle.colo_top.specs.Boot.{boot_state};
 ghost use Rattle.colo_top.specs.Ends.{IsReady};
+ghost use Rattle.colo_top.specs.FaultLines.{HasLine};
 ghost use Rattle.colo_top.specs.InputTexts.{texts_of};
-ghost use Rattle.colo_top.specs.Refusal.{Refuses};
+ghost use Rattle.colo_top.specs.Refusal.{Refuses, RefusesImage};
 
 use crate::fault::Fault;
 use crate::input::{Inputs, is_disk};
@@ -20,6 +22,9 @@ pub struct Ready {
 
 /// The machine that the image boots.
 fn boot(alloc: Global, image: &[u8]) -> Result<Machine, Fault>
+    ensures booted { IfOk result (λ machine. boot_state image.now ≡ Some machine) }
+    ensures refused { IfErr result (RefusesImage image.now) }
+    ensures line { IfErr result HasLine }
 {
     match Machine::boot(alloc, image) {
         Ok(machine) => Ok(machine),
@@ -32,6 +37,7 @@ fn boot(alloc: Global, image: &[u8]) -> Result<Machine, Fault>
 pub fn prepare(alloc: Global, inputs: &Inputs) -> Result<Ready, Fault>
     ensures ready { IfOk result (λ ready. IsReady (texts_of inputs.now) ready.turns.items ready.machine) }
     ensures refused { IfErr result (Refuses (texts_of inputs.now)) }
+    ensures line { IfErr result HasLine }
 {
     let machine = boot(alloc, &inputs.image)?;
     if !is_disk(&inputs.disk) || !inputs.client.is_empty() {

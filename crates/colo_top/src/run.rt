@@ -3,6 +3,7 @@
 ghost use Rattle.std.specs.Prelude.{◌≡◌, ◌++◌, Some, IfOk, IfErr, OnOk, OnErr, IsErrOf, string_bytes};
 ghost use Rattle.colo_top.specs.Command.{replay_of};
 ghost use Rattle.colo_top.specs.Ends.{EndsBy, Replays};
+ghost use Rattle.colo_top.specs.FaultLines.{HasLine};
 ghost use Rattle.colo_top.specs.Files.{WriteFailed};
 ghost use Rattle.colo_top.specs.Idle.{idle_event};
 ghost use Rattle.colo_top.specs.Log.{event_text};
@@ -113,6 +114,7 @@ fn carry_out<S: Shelf>(alloc: Global, shelf: &mut S, out: &str, ready: Ready, di
 pub fn replay<S: Shelf>(alloc: Global, shelf: &mut S, command: &Command<'_>) -> Result<String, Fault>
     ensures whole { IfOk result (λ line. Replays (replay_of command.now) (S.state shelf.old) (S.state shelf.new) (string_bytes line)) }
     ensures ends { IfErr result (EndsBy (replay_of command.now) (S.state shelf.old) (S.state shelf.new)) }
+    ensures line { IfErr result HasLine }
 {
     let inputs = match read_all(alloc, shelf, command) {
         Ok(inputs) => inputs,

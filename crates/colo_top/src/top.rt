@@ -1,13 +1,13 @@
 //! The top call.
 
-ghost use Rattle.std.specs.Prelude.{◌≡◌, ◌↔◌, codes, IfOk, IfErr, OnOk, OnErr, string_bytes};
+ghost use Rattle.std.specs.Prelude.{◌≡◌, ◌↔◌, ◌⊎◌, codes};
+ghost use Rattle.colo_base.specs.Count.{Rose};
 ghost use Rattle.colo_base.specs.Shelf.{ChangesOnly};
 ghost use Rattle.colo_base.specs.Sink.{SinkGoesOn, Puts, PutsPart};
 ghost use Rattle.colo_top.specs.Ends.{KeepsFiles};
 ghost use Rattle.colo_top.specs.Top.{Completes, FindsCase, FindsLeftOut, FindsStop, IsCase, IsDone, IsMisspelled, IsOutOfMemory, IsStatus, IsUnbuilt, IsUnread, IsUnwritten, IsWritten, Prints};
 ghost use Rattle.colo_top.specs.Words.{texts};
 
-use crate::fault::Fault;
 use crate::run::replay;
 use crate::words::read_words;
 use colo_base::{Clock, Link, Shelf, Sink};
@@ -58,7 +58,7 @@ pub fn colo<S: Shelf, L: Link, K: Clock, O: Sink>(alloc: Global, words: &[String
     };
     match replay(alloc, shelf, &command) {
         Ok(line) => finish(out, line.as_bytes()),
-        Err(fault) => fail(out, fault_line(fault).as_bytes(), fault_status(fault)),
+        Err(fault) => fail(out, fault.line().as_bytes(), fault.status()),
     }
 }
 
