@@ -6,3 +6,4 @@ pub mod ScheduleText
 pub mod LogText
 pub mod WordTexts
 pub mod Writes
+pub mod CaseTexts

@@ -21,6 +21,8 @@ pub enum Fault {
 }
 
 impl From<AllocError> for Fault {
+    ghost use Rattle.colo_top.specs.declared.fault.Fault.{Fault};
+
     ghost from_gives = { λ _ fault. fault ≡ Fault.NoMemory };
 
     fn from(_: AllocError) -> Fault {
@@ -58,6 +60,7 @@ impl Fault {
 }
 
 /// The line of a case of the loader.
+#[tactic(auto, using(crate::proofs::CaseTexts::text_1, crate::proofs::CaseTexts::text_2, crate::proofs::CaseTexts::text_3, crate::proofs::CaseTexts::text_4, crate::proofs::CaseTexts::text_5, crate::proofs::CaseTexts::text_6, crate::proofs::CaseTexts::text_7, crate::proofs::CaseTexts::text_8, crate::proofs::CaseTexts::text_9, crate::proofs::CaseTexts::text_10, crate::proofs::CaseTexts::text_11, crate::proofs::CaseTexts::text_12))]
 fn image_line_of(number: u8) -> &'static str
     requires some { 1 ≤ number }
     requires within { number ≤ 12 }
@@ -75,6 +78,7 @@ fn image_line_of(number: u8) -> &'static str
         9 => "image: 9\n",
         10 => "image: 10\n",
         11 => "image: 11\n",
-        _ => "image: 12\n",
+        12 => "image: 12\n",
+        _ => unreachable!(),
     }
 }
