@@ -1,6 +1,6 @@
 -- The addresses of the devices, which aren't built yet: 0x10001000 to 0x10001FFF is the network device, 0x10002000 to
 -- 0x10002FFF the block device.
-use Rattle.std.specs.Prelude.{ℕ, ◌%◌, ◌==◌, ◌&&◌, nat_le, Bool, false, Option, Some, None}
+use Rattle.std.specs.Prelude.{ℕ, ◌%◌, ◌==◌, ◌&&◌, nat_le, Bool, false}
 use Rattle.rv_isa.specs.declared.instr.Instr.{Instr}
 use Rattle.rv_isa.specs.declared.instr.Instr.TheVariants.{Lb, Lh, Lw, Lbu, Lhu, Sb, Sh, Sw}
 use Rattle.rv_core.specs.Registers.{Regs, x_of}

@@ -39,7 +39,7 @@ pub record Replays (command : Replay) (old new : ShelfState) (line : List ℕ) :
   pub last : State
   pub ran : run_from boot (single_run log) ≡ Some last
   pub files : Writing old new command.out (record { log = log_text log; released = []; wire = []; ram = last.memory; disk = texts.disk })
-  pub line : line ≡ summary_text log
+  pub said : line ≡ summary_text log
 
 -- The run broke off once the files had been created. The log file is a prefix of the text of a log whose schedule begins the
 -- schedule, and memory and disk are prefixes of those of the last state of the single run that it names.

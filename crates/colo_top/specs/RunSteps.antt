@@ -104,7 +104,7 @@ pub record CarriesOut (old new : ShelfState) (out : List ℕ) (machine : State) 
   pub last : State
   pub ran : run_from machine turns ≡ Some last
   pub files : Writing old new out (record { log = log_text (idle_events turns); released = []; wire = []; ram = last.memory; disk = disk })
-  pub line : line ≡ summary_text (idle_events turns)
+  pub said : line ≡ summary_text (idle_events turns)
 
 -- it broke off once the files were created
 pub record CarryBreaks (old new : ShelfState) (out : List ℕ) (machine : State) (turns : List Turn) (disk : List ℕ) : Type 0 where
