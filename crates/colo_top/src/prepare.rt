@@ -1,9 +1,12 @@
 //! What a replay runs, from the files that it reads.
 
-ghost use Rattle.std.specs.Prelude.{◌≡◌, Some, IfOk, IfErr};
-ghost use Rattle.colo_top.specs.Boot.{boot_state};
+ghost use Rattle.std.specs.Prelude.{◌≡◌, [], Some, None, IfOk, IfErr, OnOk};
+ghost use Rattle.std.specs.Bool.{OnTrue, OnFalse};
+ghost use Rattle.elf_load.specs.Boot.{elf_case};
+ghost use Rattle.colo_top.specs.Boot.{boot_state, ram_size};
 ghost use Rattle.colo_top.specs.Ends.{IsReady};
 ghost use Rattle.colo_top.specs.FaultLines.{HasLine};
+ghost use Rattle.colo_top.specs.Inputs.{IsDisk, IsNotBuilt};
 ghost use Rattle.colo_top.specs.InputTexts.{texts_of};
 ghost use Rattle.colo_top.specs.Refusal.{Refuses, RefusesImage};
 
@@ -21,8 +24,10 @@ pub struct Ready {
 }
 
 /// The machine that the image boots.
+#[tactic(auto, using(crate::proofs::Readiness::no_case_at_boot))]
 fn boot(alloc: Global, image: &[u8]) -> Result<Machine, Fault>
     ensures booted { IfOk result (λ machine. boot_state image.now ≡ Some machine) }
+    ensures no_case { OnOk result (elf_case ram_size image.now ≡ None) }
     ensures refused { IfErr result (RefusesImage image.now) }
     ensures line { IfErr result HasLine }
 {
@@ -33,6 +38,18 @@ fn boot(alloc: Global, image: &[u8]) -> Result<Machine, Fault>
     }
 }
 
+/// Whether the disk is one and the client sends nothing.
+fn is_built(inputs: &Inputs) -> bool
+    ensures disk { OnTrue result (IsDisk inputs.now.disk.items) }
+    ensures client { OnTrue result (inputs.now.client.items ≡ []) }
+    ensures not { OnFalse result (IsNotBuilt (texts_of inputs.now)) }
+{
+    if !is_disk(&inputs.disk) {
+        return false;
+    }
+    inputs.client.is_empty()
+}
+
 /// What the files make a replay run. The image is tested first.
 pub fn prepare(alloc: Global, inputs: &Inputs) -> Result<Ready, Fault>
     ensures ready { IfOk result (λ ready. IsReady (texts_of inputs.now) ready.turns.items ready.machine) }
@@ -40,7 +57,7 @@ pub fn prepare(alloc: Global, inputs: &Inputs) -> Result<Ready, Fault>
     ensures line { IfErr result HasLine }
 {
     let machine = boot(alloc, &inputs.image)?;
-    if !is_disk(&inputs.disk) || !inputs.client.is_empty() {
+    if !is_built(inputs) {
         return Err(Fault::NotBuilt);
     }
     match read_schedule(alloc, &inputs.schedule)? {

@@ -1,0 +1,13 @@
+-- Where a boot state exists, no case of the loader holds.
+use Rattle.std.proofs.Common.{◌≡◌, ℕ, List, Option, Some, None, refl, is_none, if◌then◌else◌}
+use Rattle.elf_load.specs.Boot.{elf_case}
+use Rattle.colo_top.specs.Machine.{State}
+use Rattle.colo_top.specs.Boot.{boot_state, at_boot, ram_size}
+
+pub no_case_at_boot : (image : List ℕ) (m : State) → boot_state image ≡ Some m → elf_case ram_size image ≡ None
+unfolding boot_state
+no_case_at_boot image m e = go (elf_case ram_size image) refl
+  where
+    go : (o : Option ℕ) → elf_case ram_size image ≡ o → elf_case ram_size image ≡ None
+    go None p = p
+    go (Some n) p = absurd (rw p at e)
