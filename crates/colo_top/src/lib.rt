@@ -3,6 +3,8 @@
 
 mod board;
 mod clint;
+mod devices;
+mod machine;
 mod number;
 mod ram;
 mod schedule;
