@@ -1,4 +1,5 @@
 pub mod Numbers
 pub mod ScheduleText
+pub mod Boards
 pub mod Steps
 pub mod Starts

@@ -2,6 +2,7 @@
 use Rattle.std.specs.Prelude.{◌≡◌, ℕ, ◌*◌, ◌^◌, false, List, Option, Some, None, replicate, is_none, if◌then◌else◌}
 use Rattle.elf_load.specs.Boot.{elf_case, boot_memory}
 use Rattle.elf_load.specs.Elf.{entry_of}
+use Rattle.rv_traps.specs.Trap.{started}
 use Rattle.colo_top.specs.Machine.{State}
 use Rattle.colo_top.specs.declared.machine.BootFault.{BootFault}
 use Rattle.colo_top.specs.declared.machine.BootFault.TheVariants.{Elf, NoMemory}
@@ -10,16 +11,17 @@ use Rattle.colo_top.specs.declared.machine.BootFault.TheVariants.{Elf, NoMemory}
 abbrev pub ram_size : ℕ
 ram_size = 16 * 2 ^ 20
 
--- each register is 0, pc is the image's entry, and memory holds the image's segments
-abbrev pub started : List ℕ → State
-started image = record {
+-- each register is 0, pc is the image's entry, the CSRs are as they start, and memory holds the image's segments
+abbrev pub at_boot : List ℕ → State
+at_boot image = record {
   hart = record { pc = entry_of image; x = replicate 32 0; reserved = false; address = 0 };
+  csrs = started;
   memory = boot_memory ram_size image;
 }
 
 -- the state at boot, which exists where no case of the loader holds
 unfoldable pub boot_state : List ℕ → Option State
-boot_state image = if is_none (elf_case ram_size image) then Some (started image) else None
+boot_state image = if is_none (elf_case ram_size image) then Some (at_boot image) else None
 
 -- a fault of the loader is the first case that holds of the image
 abbrev pub IsCaseOf : List ℕ → BootFault → Type 0

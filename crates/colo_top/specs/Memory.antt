@@ -1,8 +1,7 @@
--- Memory as a list of bytes from 0x80000000 on, and the bus that reaches memory alone. A number of several bytes stands there least byte first
+-- Memory as a list of bytes from 0x80000000 on. A number of several bytes stands there least byte first
 -- (RISC-V unprivileged, 1.4 "Memory": little-endian).
 use Rattle.std.specs.Prelude.{ℕ, ◌+◌, ◌-◌, ◌*◌, ◌&&◌, nat_le, Bool, if◌then◌else◌, Option, Some, None, List, [], ◌∷◌, ◌++◌, length, take, drop, slice_range}
 use Rattle.std.specs.Int.{bytes_low_first}
-use Rattle.rv_core.specs.Acts.{Acts}
 
 -- the address of memory's first byte
 abbrev pub ram_base : ℕ
@@ -30,20 +29,9 @@ unfoldable pub loaded : List ℕ → ℕ → ℕ → Option ℕ
 loaded memory addr width =
     if is_inside memory addr width then Some (little (slice_range memory (place addr) (place addr + width))) else None
 
--- a fetch answers the word there
-abbrev pub fetched : List ℕ → ℕ → Option ℕ
-fetched memory addr = loaded memory addr 4
-
--- a store is taken where all of it is in memory
-abbrev pub stores : List ℕ → ℕ → ℕ → ℕ → Bool
-stores memory addr width value = is_inside memory addr width
-
--- and puts the number's bytes in the place of those that stood there
+-- a store is taken where all of it is in memory, and puts the number's bytes in the place of those that stood there
 unfoldable pub stored : List ℕ → ℕ → ℕ → ℕ → List ℕ
 stored memory addr width value =
     if is_inside memory addr width
     then take (place addr) memory ++ (little_bytes width value ++ drop (place addr + width) memory)
     else memory
-
-abbrev pub memory_acts : Acts (List ℕ)
-memory_acts = record { fetched = fetched; loaded = loaded; stores = stores; stored = stored }

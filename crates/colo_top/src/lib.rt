@@ -1,6 +1,9 @@
 //! The top call of the pair: commands, their files and their statuses.
 #![tactic(auto)]
 
+mod board;
+mod clint;
+mod devices;
 mod machine;
 mod number;
 mod ram;

@@ -1,11 +1,8 @@
 //! The machine's memory.
 
-ghost use Rattle.std.specs.Prelude.{◌≡◌, ◌+◌, ◌-◌, ◌^◌, ◌≤◌, ◌<◌, length, IsTrue};
-ghost use Rattle.colo_top.specs.Memory.{memory_acts, loaded, stored, is_inside};
-ghost use Rattle.colo_top.specs.MemoryLaws.{refused_store, taken_store};
+ghost use Rattle.std.specs.Prelude.{◌≡◌, ◌⊎◌, ◌+◌, ◌-◌, ◌^◌, ◌≤◌, ◌<◌, length, IsTrue};
+ghost use Rattle.colo_top.specs.Memory.{loaded, stored, is_inside};
 
-use colo_base::NoMemory;
-use rv_core::Bus;
 use std::marker::Model;
 
 /// The address of memory's first byte.
@@ -56,7 +53,7 @@ impl Ram {
     /// The word at an address, where all of it is in memory.
     #[tactic(auto, unfolding(crate::specs::Memory::loaded))]
     #[inline(always)]
-    fn word_at(&self, addr: u32) -> Option<u32>
+    pub fn word_at(&self, addr: u32) -> Option<u32>
         ensures { result ≡ loaded self.now addr 4 }
     {
         let k = place_of(addr);
@@ -127,24 +124,14 @@ impl Ram {
         self.bytes[k..k + 1].copy_from_slice(&four[..1]);
         true
     }
-}
 
-impl Bus for Ram {
-    ghost acts = { memory_acts };
-
-    ghost refused = { refused_store };
-
-    ghost ram = { taken_store };
-
-    ghost same_word = { λ s a v h. h };
-
+    /// The `width` bytes at an address as a number, the lowest first, where all of it is in memory. `width`
+    /// is 1, 2 or 4.
     #[inline(always)]
-    fn fetch(&mut self, addr: u32) -> Option<u32> {
-        self.word_at(addr)
-    }
-
-    #[inline(always)]
-    fn load(&mut self, addr: u32, width: u32) -> Option<u32> {
+    pub fn load(&self, addr: u32, width: u32) -> Option<u32>
+        requires { (width ≡ 1) ⊎ ((width ≡ 2) ⊎ (width ≡ 4)) }
+        ensures { result ≡ loaded self.now addr width }
+    {
         match width {
             4 => self.word_at(addr),
             2 => self.half_at(addr),
@@ -152,12 +139,18 @@ impl Bus for Ram {
         }
     }
 
+    /// Stores the lowest `width` bytes of `value` at an address, the lowest first, where all of it is in
+    /// memory; else `false`, and nothing changes. `width` is 1, 2 or 4.
     #[inline(always)]
-    fn store(&mut self, addr: u32, width: u32, value: u32) -> Result<bool, NoMemory> {
+    pub fn store(&mut self, addr: u32, width: u32, value: u32) -> bool
+        requires { (width ≡ 1) ⊎ ((width ≡ 2) ⊎ (width ≡ 4)) }
+        ensures taken { result ≡ is_inside self.old addr width }
+        ensures after { self.new ≡ stored self.old addr width value }
+    {
         match width {
-            4 => Ok(self.put_word(addr, value)),
-            2 => Ok(self.put_half(addr, value)),
-            _ => Ok(self.put_byte(addr, value)),
+            4 => self.put_word(addr, value),
+            2 => self.put_half(addr, value),
+            _ => self.put_byte(addr, value),
         }
     }
 }

@@ -1,4 +1,7 @@
 pub mod Acts
+pub mod Arithmetic
 pub mod Registers
-pub mod Table
+pub mod Reach
 pub mod Effect
+pub mod Choices
+pub mod Fields

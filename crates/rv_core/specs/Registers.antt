@@ -1,6 +1,5 @@
--- The registers of one hart (RISC-V unprivileged, RV32I, 2.1; the reservation: "A", Load-Reserved/Store-Conditional).
-use Rattle.std.specs.Prelude.{ℕ, ◌+◌, ◌%◌, ◌^◌, ◌≡◌, ◌==◌, Bool, List, ℤ, slice_index, slice_set, if◌then◌else◌}
-use Rattle.std.specs.Int.{w32, cast_unsigned}
+-- The registers of one hart (RISC-V unprivileged, RV32I, 2.1; the reservation: A, "Load-Reserved/Store-Conditional Instructions").
+use Rattle.std.specs.Prelude.{◌≡◌, ℕ, ◌+◌, ◌%◌, ◌^◌, ◌==◌, Bool, true, false, List, slice_index, slice_set, if◌then◌else◌}
 
 -- the program counter, x0 to x31, whether an address is reserved, and the address that was reserved last
 pub record Regs : Type 0 where
@@ -22,10 +21,17 @@ x_of h k = slice_index h.x k
 abbrev pub writes : Regs → ℕ → ℕ → Regs
 writes h rd v = record h { x = if rd == 0 then h.x else slice_set h.x rd v }
 
--- the registers with the program counter behind this instruction
-abbrev pub goes_on : Regs → Regs
-goes_on h = record h { pc = (h.pc + 4) % 2 ^ 32 }
+-- the address of the instruction behind this one
+abbrev pub behind : Regs → ℕ
+behind h = (h.pc + 4) % 2 ^ 32
 
--- a word plus a signed number, modulo 2^32
-abbrev pub plus : ℕ → ℤ → ℕ
-plus a z = (a + cast_unsigned w32 z) % 2 ^ 32
+-- the registers with the program counter elsewhere
+abbrev pub at_pc : Regs → ℕ → Regs
+at_pc h pc = record h { pc = pc }
+
+-- an address is reserved, in place of any other; and none is, which leaves the address
+abbrev pub reserving : Regs → ℕ → Regs
+reserving h addr = record h { reserved = true; address = addr }
+
+abbrev pub unreserved : Regs → Regs
+unreserved h = record h { reserved = false }

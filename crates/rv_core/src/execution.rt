@@ -1,55 +1,285 @@
 //! What each instruction does.
 
-ghost use Rattle.std.specs.Prelude.{◌≡◌, ◌+◌, ◌*◌, ◌%◌, ◌^◌, ◌<◌, IfOk};
-ghost use Rattle.rv_core.specs.Registers.{x_of, writes, plus};
-ghost use Rattle.rv_core.specs.Table.{IsWithin};
-ghost use Rattle.rv_core.specs.Effect.{after, done, effect, quiet, jumps, loads_word, stores_word, KeepsOnTrap};
+ghost use Rattle.std.specs.Prelude.{◌≡◌, ℕ, ◌*◌, ◌^◌, ◌<◌, IfOk, IsErr};
+ghost use Rattle.rv_isa.specs.Table.{IsSpelled};
+ghost use Rattle.rv_isa.specs.Ranges.{IsWithin};
+ghost use Rattle.rv_core.specs.Registers.{x_of};
+ghost use Rattle.rv_core.specs.Arithmetic.{sum, word_of};
+ghost use Rattle.rv_core.specs.Effect.{IsWordOf, IsStoring, KeepsOnTrap, effect, plus, even};
+ghost use Rattle.rv_core.specs.Reach.{after, done, puts, jumps, branches};
+ghost use Rattle.rv_core.specs.Choices.{applied, compares};
 
+use crate::access::{Loaded, Stored};
+use crate::arithmetic::{Comparison, Operation};
 use crate::buses::Bus;
-use crate::instructions::Instr;
+use crate::control::Change;
 use crate::registers::{Hart, Outcome};
 use colo_base::NoMemory;
+use rv_isa::Instr;
+use rv_traps::Csrs;
 
-/// The cause of a load from an address that is no multiple of its width.
-const MISALIGNED_LOAD: u32 = 4;
-/// The cause of a load that the bus refuses.
-const LOAD_FAULT: u32 = 5;
-/// The cause of a store to an address that is no multiple of its width.
-const MISALIGNED_STORE: u32 = 6;
-/// The cause of a store that the bus refuses.
-const STORE_FAULT: u32 = 7;
+/// The cause of EBREAK.
+const BREAKPOINT: u32 = 3;
+/// The cause of ECALL from machine mode.
+const ENVIRONMENT_CALL: u32 = 11;
 
 impl Hart {
-    /// Executes one instruction over a bus, exactly as its row of the instruction table says. `Trap`
-    /// changes no register and no memory. After `NoMemory`, which only the bus's `store` gives, nothing
-    /// is said of the hart and the bus.
+    /// Executes one instruction over a bus, exactly as its row of the instruction table says. It is one
+    /// that some word says. `Trap` changes no register, no CSR and no memory. `NoMemory` comes only from
+    /// the bus's `store`, and then nothing is said of the hart, the CSRs and the bus.
     #[inline(always)]
-    pub fn execute<B: Bus>(&mut self, instr: &Instr, bus: &mut B) -> Result<Outcome, NoMemory>
+    pub fn execute<B: Bus>(
+        &mut self,
+        instr: &Instr,
+        csrs: &mut Csrs,
+        bus: &mut B,
+    ) -> Result<Outcome, NoMemory>
+        requires { IsSpelled instr.now }
+        ensures effect { (w : ℕ) → IsWordOf w instr.now → IfOk result (λ o. after o self.new csrs.new bus.new
+            ≡ effect B.acts self.old csrs.old bus.old w instr.now) }
+        ensures trap { IfOk result (λ o. KeepsOnTrap o self.old self.new csrs.old csrs.new bus.old bus.new) }
+        ensures memory { IsErr result → IsStoring instr.now }
+    {
+        self.perform(instr, csrs, bus)
+    }
+
+    // The effect alone, with the ranges of the fields.
+    #[inline(always)]
+    fn perform<B: Bus>(
+        &mut self,
+        instr: &Instr,
+        csrs: &mut Csrs,
+        bus: &mut B,
+    ) -> Result<Outcome, NoMemory>
         requires { IsWithin instr.now }
-        ensures effect { IfOk result (λ o. after o self.new bus.new ≡ effect B.acts self.old bus.old instr.now) }
-        ensures trap { IfOk result (λ o. KeepsOnTrap o self.old self.new bus.old bus.new) }
+        ensures effect { (w : ℕ) → IsWordOf w instr.now → IfOk result (λ o. after o self.new csrs.new bus.new
+            ≡ effect B.acts self.old csrs.old bus.old w instr.now) }
+        ensures memory { IsErr result → IsStoring instr.now }
     {
         match *instr {
             Instr::Lui { rd, imm } => Ok(self.put(rd, imm << 12)),
-            Instr::Auipc { rd, imm } => Ok(self.add_upper(rd, imm)),
+            Instr::Auipc { rd, imm } => Ok(self.put_above_pc(rd, imm)),
             Instr::Jal { rd, imm } => Ok(self.jump_by(rd, imm)),
-            Instr::Addi { rd, rs1, imm } => Ok(self.add_immediate(rd, rs1, imm)),
-            Instr::Lw { rd, rs1, imm } => Ok(self.load_word(rd, rs1, imm, bus)),
-            Instr::Sw { rs1, rs2, imm } => self.store_word(rs1, rs2, imm, bus),
+            Instr::Jalr { rd, rs1, imm } => Ok(self.jump_to(rd, rs1, imm)),
+            Instr::Beq { rs1, rs2, imm } => Ok(self.branch(Comparison::Equal, rs1, rs2, imm)),
+            Instr::Bne { rs1, rs2, imm } => Ok(self.branch(Comparison::NotEqual, rs1, rs2, imm)),
+            Instr::Blt { rs1, rs2, imm } => Ok(self.branch(Comparison::SignedBelow, rs1, rs2, imm)),
+            Instr::Bge { rs1, rs2, imm } => Ok(self.branch(
+                Comparison::NotSignedBelow,
+                rs1,
+                rs2,
+                imm,
+            )),
+            Instr::Bltu { rs1, rs2, imm } => Ok(self.branch(
+                Comparison::UnsignedBelow,
+                rs1,
+                rs2,
+                imm,
+            )),
+            Instr::Bgeu { rs1, rs2, imm } => Ok(self.branch(
+                Comparison::NotUnsignedBelow,
+                rs1,
+                rs2,
+                imm,
+            )),
+            Instr::Lb { rd, rs1, imm } => Ok(self.load(Loaded::SignedByte, rd, rs1, imm, bus)),
+            Instr::Lh { rd, rs1, imm } => Ok(self.load(Loaded::SignedHalf, rd, rs1, imm, bus)),
+            Instr::Lw { rd, rs1, imm } => Ok(self.load(Loaded::Word, rd, rs1, imm, bus)),
+            Instr::Lbu { rd, rs1, imm } => Ok(self.load(Loaded::Byte, rd, rs1, imm, bus)),
+            Instr::Lhu { rd, rs1, imm } => Ok(self.load(Loaded::Half, rd, rs1, imm, bus)),
+            Instr::Sb { rs1, rs2, imm } => self.store(Stored::LowByte, rs1, rs2, imm, bus),
+            Instr::Sh { rs1, rs2, imm } => self.store(Stored::LowHalf, rs1, rs2, imm, bus),
+            Instr::Sw { rs1, rs2, imm } => self.store(Stored::WholeWord, rs1, rs2, imm, bus),
+            Instr::Addi { rd, rs1, imm } => Ok(self.combine_immediate(
+                Operation::Sum,
+                rd,
+                rs1,
+                imm,
+            )),
+            Instr::Slti { rd, rs1, imm } => Ok(self.combine_immediate(
+                Operation::Less,
+                rd,
+                rs1,
+                imm,
+            )),
+            Instr::Sltiu { rd, rs1, imm } => Ok(self.combine_immediate(
+                Operation::Below,
+                rd,
+                rs1,
+                imm,
+            )),
+            Instr::Xori { rd, rs1, imm } => Ok(self.combine_immediate(
+                Operation::Xor,
+                rd,
+                rs1,
+                imm,
+            )),
+            Instr::Ori { rd, rs1, imm } => Ok(self.combine_immediate(Operation::Or, rd, rs1, imm)),
+            Instr::Andi { rd, rs1, imm } => Ok(self.combine_immediate(
+                Operation::And,
+                rd,
+                rs1,
+                imm,
+            )),
+            Instr::Slli { rd, rs1, shamt } => Ok(self.shift(Operation::ShiftLeft, rd, rs1, shamt)),
+            Instr::Srli { rd, rs1, shamt } => Ok(self.shift(Operation::ShiftRight, rd, rs1, shamt)),
+            Instr::Srai { rd, rs1, shamt } => Ok(self.shift(
+                Operation::ShiftRightSigned,
+                rd,
+                rs1,
+                shamt,
+            )),
+            Instr::Add { rd, rs1, rs2 } => Ok(self.combine(Operation::Sum, rd, rs1, rs2)),
+            Instr::Sll { rd, rs1, rs2 } => Ok(self.combine(Operation::ShiftLeft, rd, rs1, rs2)),
+            Instr::Slt { rd, rs1, rs2 } => Ok(self.combine(Operation::Less, rd, rs1, rs2)),
+            Instr::Sltu { rd, rs1, rs2 } => Ok(self.combine(Operation::Below, rd, rs1, rs2)),
+            Instr::Xor { rd, rs1, rs2 } => Ok(self.combine(Operation::Xor, rd, rs1, rs2)),
+            Instr::Srl { rd, rs1, rs2 } => Ok(self.combine(Operation::ShiftRight, rd, rs1, rs2)),
+            Instr::Or { rd, rs1, rs2 } => Ok(self.combine(Operation::Or, rd, rs1, rs2)),
+            Instr::And { rd, rs1, rs2 } => Ok(self.combine(Operation::And, rd, rs1, rs2)),
+            Instr::Sub { rd, rs1, rs2 } => Ok(self.combine(Operation::Difference, rd, rs1, rs2)),
+            Instr::Sra { rd, rs1, rs2 } => Ok(self.combine(
+                Operation::ShiftRightSigned,
+                rd,
+                rs1,
+                rs2,
+            )),
+            Instr::Mul { rd, rs1, rs2 } => Ok(self.combine(Operation::Product, rd, rs1, rs2)),
+            Instr::Mulh { rd, rs1, rs2 } => Ok(self.combine(Operation::ProductHigh, rd, rs1, rs2)),
+            Instr::Mulhsu { rd, rs1, rs2 } => Ok(self.combine(
+                Operation::ProductHighMixed,
+                rd,
+                rs1,
+                rs2,
+            )),
+            Instr::Mulhu { rd, rs1, rs2 } => Ok(self.combine(
+                Operation::ProductHighUnsigned,
+                rd,
+                rs1,
+                rs2,
+            )),
+            Instr::Div { rd, rs1, rs2 } => Ok(self.combine(Operation::Quotient, rd, rs1, rs2)),
+            Instr::Divu { rd, rs1, rs2 } => Ok(self.combine(
+                Operation::QuotientUnsigned,
+                rd,
+                rs1,
+                rs2,
+            )),
+            Instr::Rem { rd, rs1, rs2 } => Ok(self.combine(Operation::Remainder, rd, rs1, rs2)),
+            Instr::Remu { rd, rs1, rs2 } => Ok(self.combine(
+                Operation::RemainderUnsigned,
+                rd,
+                rs1,
+                rs2,
+            )),
+            Instr::Fence { .. } | Instr::FenceI { .. } | Instr::Wfi => Ok(self.go_on()),
+            Instr::Csrrw { rd, rs1, csr } => Ok(self.access_by_register(
+                Change::Replace,
+                rd,
+                rs1,
+                csr,
+                instr,
+                csrs,
+            )),
+            Instr::Csrrs { rd, rs1, csr } => Ok(self.access_by_register(
+                Change::Set,
+                rd,
+                rs1,
+                csr,
+                instr,
+                csrs,
+            )),
+            Instr::Csrrc { rd, rs1, csr } => Ok(self.access_by_register(
+                Change::Clear,
+                rd,
+                rs1,
+                csr,
+                instr,
+                csrs,
+            )),
+            Instr::Csrrwi { rd, imm, csr } => Ok(self.access_by_number(
+                Change::Replace,
+                rd,
+                imm,
+                csr,
+                instr,
+                csrs,
+            )),
+            Instr::Csrrsi { rd, imm, csr } => Ok(self.access_by_number(
+                Change::Set,
+                rd,
+                imm,
+                csr,
+                instr,
+                csrs,
+            )),
+            Instr::Csrrci { rd, imm, csr } => Ok(self.access_by_number(
+                Change::Clear,
+                rd,
+                imm,
+                csr,
+                instr,
+                csrs,
+            )),
+            Instr::Ecall => Ok(Outcome::Trap {
+                cause: ENVIRONMENT_CALL,
+                value: 0,
+            }),
+            Instr::Ebreak => Ok(Outcome::Trap {
+                cause: BREAKPOINT,
+                value: self.pc(),
+            }),
+            Instr::Mret => Ok(self.leave(csrs)),
+            Instr::Lr { rd, rs1, .. } => Ok(self.load_reserved(rd, rs1, bus)),
+            Instr::Sc { rd, rs1, rs2, .. } => self.store_conditional(rd, rs1, rs2, bus),
+            Instr::AmoSwap { rd, rs1, rs2, .. } => self.modify(
+                Operation::Second,
+                rd,
+                rs1,
+                rs2,
+                bus,
+            ),
+            Instr::AmoAdd { rd, rs1, rs2, .. } => self.modify(Operation::Sum, rd, rs1, rs2, bus),
+            Instr::AmoXor { rd, rs1, rs2, .. } => self.modify(Operation::Xor, rd, rs1, rs2, bus),
+            Instr::AmoAnd { rd, rs1, rs2, .. } => self.modify(Operation::And, rd, rs1, rs2, bus),
+            Instr::AmoOr { rd, rs1, rs2, .. } => self.modify(Operation::Or, rd, rs1, rs2, bus),
+            Instr::AmoMin { rd, rs1, rs2, .. } => self.modify(Operation::Least, rd, rs1, rs2, bus),
+            Instr::AmoMax { rd, rs1, rs2, .. } => self.modify(
+                Operation::Greatest,
+                rd,
+                rs1,
+                rs2,
+                bus,
+            ),
+            Instr::AmoMinu { rd, rs1, rs2, .. } => self.modify(
+                Operation::LeastUnsigned,
+                rd,
+                rs1,
+                rs2,
+                bus,
+            ),
+            Instr::AmoMaxu { rd, rs1, rs2, .. } => self.modify(
+                Operation::GreatestUnsigned,
+                rd,
+                rs1,
+                rs2,
+                bus,
+            ),
         }
     }
 
-    /// Puts the program counter plus `imm`, as the upper 20 bits of a word, into `rd`.
+    /// AUIPC.
     #[inline(always)]
-    fn add_upper(&mut self, rd: u8, imm: u32) -> Outcome
+    fn put_above_pc(&mut self, rd: u8, imm: u32) -> Outcome
         requires register { rd < 32 }
         requires upper { imm < 2 ^ 20 }
-        ensures { done result self.new ≡ quiet (writes self.old rd ((self.old.pc + imm * 2 ^ 12) % 2 ^ 32)) }
+        ensures { done result self.new ≡ puts self.old rd (sum self.old.pc (imm * 2 ^ 12)) }
     {
         let sum = self.pc().wrapping_add(imm << 12);
         self.put(rd, sum)
     }
 
+    /// JAL.
     #[inline(always)]
     fn jump_by(&mut self, rd: u8, imm: i32) -> Outcome
         requires { rd < 32 }
@@ -59,67 +289,65 @@ impl Hart {
         self.jump(rd, target)
     }
 
+    /// JALR, which clears bit 0 of its target.
     #[inline(always)]
-    fn add_immediate(&mut self, rd: u8, rs1: u8, imm: i32) -> Outcome
+    fn jump_to(&mut self, rd: u8, rs1: u8, imm: i32) -> Outcome
         requires target { rd < 32 }
         requires source { rs1 < 32 }
-        ensures { done result self.new ≡ quiet (writes self.old rd (plus (x_of self.old rs1) imm)) }
+        ensures { done result self.new ≡ jumps self.old rd (even (plus (x_of self.old rs1) imm)) }
     {
-        let sum = self.at(rs1).wrapping_add_signed(imm);
-        self.put(rd, sum)
+        let target = self.at(rs1).wrapping_add_signed(imm) / 2 * 2;
+        self.jump(rd, target)
     }
 
+    /// The branches.
     #[inline(always)]
-    fn load_word<B: Bus>(&mut self, rd: u8, rs1: u8, imm: i32, bus: &mut B) -> Outcome
-        requires target { rd < 32 }
-        requires source { rs1 < 32 }
-        ensures { after result self.new bus.new
-            ≡ loads_word B.acts self.old bus.old rd (plus (x_of self.old rs1) imm) }
+    fn branch(&mut self, comparison: Comparison, rs1: u8, rs2: u8, imm: i32) -> Outcome
+        requires left { rs1 < 32 }
+        requires right { rs2 < 32 }
+        ensures { done result self.new
+            ≡ branches self.old (compares comparison (x_of self.old rs1) (x_of self.old rs2)) (plus self.old.pc imm) }
     {
-        let addr = self.at(rs1).wrapping_add_signed(imm);
-        if addr % 4 != 0 {
-            return Outcome::Trap {
-                cause: MISALIGNED_LOAD,
-                value: addr,
-            };
-        }
-        match bus.load(addr, 4) {
-            Some(value) => self.put(rd, value),
-            None => Outcome::Trap {
-                cause: LOAD_FAULT,
-                value: addr,
-            },
-        }
-    }
-
-    #[inline(always)]
-    fn store_word<B: Bus>(
-        &mut self,
-        rs1: u8,
-        rs2: u8,
-        imm: i32,
-        bus: &mut B,
-    ) -> Result<Outcome, NoMemory>
-        requires base { rs1 < 32 }
-        requires source { rs2 < 32 }
-        ensures { IfOk result (λ o. after o self.new bus.new
-            ≡ stores_word B.acts self.old bus.old (plus (x_of self.old rs1) imm) (x_of self.old rs2)) }
-    {
-        let addr = self.at(rs1).wrapping_add_signed(imm);
-        if addr % 4 != 0 {
-            return Ok(Outcome::Trap {
-                cause: MISALIGNED_STORE,
-                value: addr,
-            });
-        }
-        let value = self.at(rs2);
-        if bus.store(addr, 4, value)? {
-            Ok(self.go_on())
+        if comparison.holds(self.at(rs1), self.at(rs2)) {
+            let target = self.pc().wrapping_add_signed(imm);
+            self.jump(0, target)
         } else {
-            Ok(Outcome::Trap {
-                cause: STORE_FAULT,
-                value: addr,
-            })
+            self.go_on()
         }
+    }
+
+    /// An operation on two registers.
+    #[inline(always)]
+    fn combine(&mut self, operation: Operation, rd: u8, rs1: u8, rs2: u8) -> Outcome
+        requires target { rd < 32 }
+        requires left { rs1 < 32 }
+        requires right { rs2 < 32 }
+        ensures { done result self.new
+            ≡ puts self.old rd (applied operation (x_of self.old rs1) (x_of self.old rs2)) }
+    {
+        let value = operation.apply(self.at(rs1), self.at(rs2));
+        self.put(rd, value)
+    }
+
+    /// An operation on a register and an immediate.
+    #[inline(always)]
+    fn combine_immediate(&mut self, operation: Operation, rd: u8, rs1: u8, imm: i32) -> Outcome
+        requires target { rd < 32 }
+        requires source { rs1 < 32 }
+        ensures { done result self.new ≡ puts self.old rd (applied operation (x_of self.old rs1) (word_of imm)) }
+    {
+        let value = operation.apply(self.at(rs1), imm.cast_unsigned());
+        self.put(rd, value)
+    }
+
+    /// A shift of a register by a number.
+    #[inline(always)]
+    fn shift(&mut self, operation: Operation, rd: u8, rs1: u8, shamt: u8) -> Outcome
+        requires target { rd < 32 }
+        requires source { rs1 < 32 }
+        ensures { done result self.new ≡ puts self.old rd (applied operation (x_of self.old rs1) shamt) }
+    {
+        let value = operation.apply(self.at(rs1), u32::from(shamt));
+        self.put(rd, value)
     }
 }

@@ -1,16 +1,15 @@
-//! One hart of RV32: its registers, the bus that it loads from and stores to, and what each
-//! instruction does to both.
+//! One hart of RV32IMA: its registers, the bus that it loads from and stores to, and what each
+//! instruction does to them and to the CSRs.
 #![tactic(auto)]
 
+mod access;
+mod arithmetic;
 mod buses;
-mod decoding;
+mod control;
 mod execution;
-mod instructions;
 mod registers;
 #[cfg(test)]
 mod tests;
 
 pub use buses::Bus;
-pub use decoding::decode;
-pub use instructions::Instr;
-pub use registers::{Hart, Outcome};
+pub use registers::{Hart, HartFields, Outcome};

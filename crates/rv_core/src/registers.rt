@@ -1,8 +1,9 @@
 //! The registers of one hart.
 
-ghost use Rattle.std.specs.Prelude.{◌≡◌, ◌%◌, ◌<◌, false, replicate, slice_index};
-ghost use Rattle.rv_core.specs.Registers.{Regs, x_of, writes};
-ghost use Rattle.rv_core.specs.Effect.{done, quiet, jumps};
+ghost use Rattle.std.specs.Prelude.{◌≡◌, ◌%◌, ◌<◌, ◌==◌, ◌&&◌, false, replicate, slice_index};
+ghost use Rattle.rv_core.specs.Registers.{Regs, x_of, writes, at_pc, reserving, unreserved};
+ghost use Rattle.rv_core.specs.Reach.{done, quiet, puts, jumps};
+ghost use Rattle.rv_core.specs.Fields.{IsHeld, fields_of, state_of};
 
 use std::marker::Model;
 
@@ -15,6 +16,16 @@ const MISALIGNED_JUMP: u32 = 0;
 pub enum Outcome {
     Next,
     Trap { cause: u32, value: u32 },
+}
+
+/// The values of the machine's state that the hart holds. `x` is x1 to x31; `address` is the one that
+/// was reserved last.
+#[derive(Clone, Copy, Debug, PartialEq, Eq)]
+pub struct HartFields {
+    pub pc: u32,
+    pub x: [u32; 31],
+    pub reserved: bool,
+    pub address: u32,
 }
 
 /// The registers of one hart: the program counter, x0 to x31, and the reservation of LR and SC.
@@ -63,6 +74,7 @@ impl Hart {
     }
 
     /// The program counter, a multiple of 4.
+    #[inline(always)]
     pub fn pc(&self) -> u32
         ensures value { result ≡ self.now.pc }
         ensures aligned { result % 4 ≡ 0 }
@@ -76,14 +88,46 @@ impl Hart {
         ensures { self.new ≡ record self.old { pc = pc; reserved = false } }
     {
         self.pc = pc;
+        self.unreserve();
+    }
+
+    /// Forgets the reservation. The address that was reserved stays.
+    #[inline(always)]
+    pub fn unreserve(&mut self)
+        ensures { self.new ≡ unreserved self.old }
+    {
         self.reserved = false;
     }
 
-    /// Forgets the reservation.
-    pub fn unreserve(&mut self)
-        ensures { self.new ≡ record self.old { reserved = false } }
+    /// The values that the hart holds. They make the same hart again.
+    pub fn fields(&self) -> HartFields
+        ensures value { result ≡ fields_of self.now }
+        ensures held { IsHeld result }
+        ensures back { state_of result ≡ self.now }
     {
-        self.reserved = false;
+        let mut x = [0; 31];
+        x.copy_from_slice(&self.x[1..]);
+        HartFields {
+            pc: self.pc,
+            x,
+            reserved: self.reserved,
+            address: self.address,
+        }
+    }
+
+    /// Sets the values that the hart holds. The program counter is a multiple of 4.
+    pub fn set_fields(&mut self, f: &HartFields)
+        requires { IsHeld f.now }
+        ensures { self.new ≡ state_of f.now }
+    {
+        let mut x = [0; 32];
+        x[1..].copy_from_slice(&f.x);
+        *self = Hart {
+            pc: f.pc,
+            x,
+            reserved: f.reserved,
+            address: f.address,
+        };
     }
 
     /// The register with the number `k`, below 32.
@@ -93,6 +137,23 @@ impl Hart {
         ensures { result ≡ x_of self.now k }
     {
         self.x[k as usize]
+    }
+
+    /// Whether `addr` is reserved.
+    #[inline(always)]
+    pub(crate) fn has_reserved(&self, addr: u32) -> bool
+        ensures { result ≡ (self.now.reserved && self.now.address == addr) }
+    {
+        self.reserved && self.address == addr
+    }
+
+    /// Reserves `addr`, in place of any other.
+    #[inline(always)]
+    pub(crate) fn reserve(&mut self, addr: u32)
+        ensures { self.new ≡ reserving self.old addr }
+    {
+        self.reserved = true;
+        self.address = addr;
     }
 
     /// Writes `value` to the register `rd`, but nothing to x0.
@@ -110,11 +171,10 @@ impl Hart {
     #[inline(always)]
     pub(crate) fn put(&mut self, rd: u8, value: u32) -> Outcome
         requires { rd < 32 }
-        ensures { done result self.new ≡ quiet (writes self.old rd value) }
+        ensures { done result self.new ≡ puts self.old rd value }
     {
         self.write(rd, value);
-        self.pc = self.pc.wrapping_add(4);
-        Outcome::Next
+        self.go_on()
     }
 
     /// Goes on behind the instruction.
@@ -123,6 +183,16 @@ impl Hart {
         ensures { done result self.new ≡ quiet self.old }
     {
         self.pc = self.pc.wrapping_add(4);
+        Outcome::Next
+    }
+
+    /// Goes on at `pc`, a multiple of 4.
+    #[inline(always)]
+    pub(crate) fn go_to(&mut self, pc: u32) -> Outcome
+        requires { pc % 4 ≡ 0 }
+        ensures { done result self.new ≡ done Outcome.Next (at_pc self.old pc) }
+    {
+        self.pc = pc;
         Outcome::Next
     }
 

@@ -1,0 +1,4 @@
+pub mod CsrState
+pub mod CsrTable
+pub mod Trap
+pub mod Fields

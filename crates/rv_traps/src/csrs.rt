@@ -1,0 +1,317 @@
+//! The registers, call by call.
+
+ghost use Rattle.std.specs.Prelude.{◌≡◌, ◌<◌, ◌%◌, ◌^◌, IfSome};
+ghost use Rattle.std.specs.Bool.{OnFalse};
+ghost use Rattle.rv_traps.specs.Fields.{IsHeld, fields_of, state_of};
+ghost use Rattle.rv_traps.specs.CsrTable.{read_of, written, is_writable, mip_of, low_half, high_half};
+ghost use Rattle.rv_traps.specs.Trap.{due, entered, handler, returned, ticked, counted, started};
+
+use crate::fields::CsrFields;
+use crate::numbers::*;
+use crate::words;
+use std::marker::Model;
+
+/// The control and status registers of the hart with its timer and the lines that raise interrupts
+/// (RISC-V privileged, 3.1 and 3.2.1).
+///
+/// Contracts see it as a `CsrState`: the values of `CsrFields`, and what `external` set.
+#[derive(Drop)]
+pub struct Csrs {
+    mstatus: u32,
+    mie: u32,
+    mtvec: u32,
+    mscratch: u32,
+    mepc: u32,
+    mcause: u32,
+    mtval: u32,
+    msip: bool,
+    mtime: u64,
+    mtimecmp: u64,
+    steps: u64,
+    external: bool,
+}
+
+impl Model for Csrs {
+    ghost use Rattle.rv_traps.specs.CsrState.{CsrState, AreHeld, AreWords};
+
+    ghost Value = { CsrState };
+
+    ghost view = { λ c. record {
+      mstatus = c.mstatus;
+      mie = c.mie;
+      mtvec = c.mtvec;
+      mscratch = c.mscratch;
+      mepc = c.mepc;
+      mcause = c.mcause;
+      mtval = c.mtval;
+      msip = c.msip;
+      mtime = c.mtime;
+      mtimecmp = c.mtimecmp;
+      steps = c.steps;
+      external = c.external;
+    } };
+
+    ghost invariant = { λ c. (AreHeld c.mstatus c.mie c.mtvec c.mepc)
+        × (AreWords c.mtvec c.mscratch c.mepc c.mcause c.mtval) };
+}
+
+impl Csrs {
+    /// The registers of a machine that starts (RISC-V privileged, 3.4): all 0 but `mstatus`, which is 0x1800, and
+    /// `mtimecmp`, which is all ones.
+    #[tactic(auto, unfolding(crate::specs::Trap::started))]
+    pub fn new() -> Csrs
+        ensures { result ≡ started }
+    {
+        Csrs {
+            mstatus: words::status_of(false, false),
+            mie: 0,
+            mtvec: 0,
+            mscratch: 0,
+            mepc: 0,
+            mcause: 0,
+            mtval: 0,
+            msip: false,
+            mtime: 0,
+            mtimecmp: u64::MAX,
+            steps: 0,
+            external: false,
+        }
+    }
+
+    /// What CSR `number` reads (RISC-V privileged, 2.2 and 3.1). `None` exactly where there is no such CSR.
+    #[tactic(auto, unfolding(crate::specs::CsrTable::read_of, crate::specs::CsrTable::row_at, crate::specs::CsrTable::table))]
+    pub fn read(&self, number: u32) -> Option<u32>
+        ensures value { result ≡ read_of self.now number }
+        ensures small { IfSome result (λ v. v < 2 ^ 32) }
+    {
+        let value = match number {
+            MSTATUS => self.mstatus,
+            MISA => ISA,
+            MIE => self.mie,
+            MTVEC => self.mtvec,
+            MSCRATCH => self.mscratch,
+            MEPC => self.mepc,
+            MCAUSE => self.mcause,
+            MTVAL => self.mtval,
+            MIP => self.mip(),
+            MCYCLE | MINSTRET => self.steps_low(),
+            MCYCLEH | MINSTRETH => self.steps_high(),
+            MVENDORID | MARCHID | MIMPID | MHARTID => 0,
+            _ => return None,
+        };
+        Some(value)
+    }
+
+    /// Writes CSR `number` (RISC-V privileged, 2.1 to 3.1). `false` exactly where there is no such CSR or it is
+    /// read-only; nothing changes then. A write to `misa`, `mip` or a counter is ignored.
+    #[tactic(auto, unfolding(crate::specs::CsrTable::is_writable, crate::specs::CsrTable::written, crate::specs::CsrTable::write_at, crate::specs::CsrTable::row_at, crate::specs::CsrTable::table))]
+    pub fn write(&mut self, number: u32, value: u32) -> bool
+        ensures allowed { result ≡ is_writable number }
+        ensures effect { self.new ≡ written self.old number value }
+        ensures refused { OnFalse result (self.new ≡ self.old) }
+    {
+        match number {
+            MSTATUS => self.mstatus = words::status_held(value),
+            MIE => self.mie = words::enables_held(value),
+            MTVEC => self.mtvec = words::vector_held(value),
+            MSCRATCH => self.mscratch = value,
+            MEPC => self.mepc = words::address_held(value),
+            MCAUSE => self.mcause = value,
+            MTVAL => self.mtval = value,
+            MISA | MIP | MCYCLE | MINSTRET | MCYCLEH | MINSTRETH => {}
+            _ => return false,
+        }
+        true
+    }
+
+    /// Enters the trap of this cause and value at `pc`, a multiple of 4 (RISC-V privileged, 3.1.6.1 and 3.1.7). A cause
+    /// with bit 31 is an interrupt. The result is the new pc, a multiple of 4.
+    #[tactic(auto, unfolding(crate::specs::Trap::entered, crate::specs::Trap::handler))]
+    pub fn enter(&mut self, cause: u32, value: u32, pc: u32) -> u32
+        requires { pc % 4 ≡ 0 }
+        ensures effect { self.new ≡ entered self.old cause value pc }
+        ensures target { result ≡ handler self.old cause }
+        ensures aligned { result % 4 ≡ 0 }
+        ensures small { result < 2 ^ 32 }
+    {
+        self.mstatus = words::status_of(false, words::is_set(3, self.mstatus));
+        self.mepc = pc;
+        self.mcause = cause;
+        self.mtval = value;
+        let base = self.mtvec / 4 * 4;
+        if words::is_set(31, cause) && words::is_set(0, self.mtvec) {
+            base.wrapping_add(cause.wrapping_mul(4))
+        } else {
+            base
+        }
+    }
+
+    /// Returns from a trap (RISC-V privileged, 3.3.2). The result is the new pc, which is `mepc`, a multiple of 4.
+    #[tactic(auto, unfolding(crate::specs::Trap::returned))]
+    pub fn leave(&mut self) -> u32
+        ensures effect { self.new ≡ returned self.old }
+        ensures target { result ≡ self.old.mepc }
+        ensures aligned { result % 4 ≡ 0 }
+        ensures small { result < 2 ^ 32 }
+    {
+        self.mstatus = words::status_of(words::is_set(7, self.mstatus), true);
+        self.mepc
+    }
+
+    /// The cause of the due interrupt, with bit 31 set (RISC-V privileged, 3.1.9). `None` exactly where none is due.
+    #[tactic(auto, unfolding(crate::specs::Trap::due))]
+    pub fn pending(&self) -> Option<u32>
+        ensures value { result ≡ due self.now }
+        ensures small { IfSome result (λ v. v < 2 ^ 32) }
+    {
+        if !words::is_set(3, self.mstatus) {
+            return None;
+        }
+        let shared = self.mie & self.mip();
+        if words::is_set(EXTERNAL, shared) {
+            Some(INTERRUPT + EXTERNAL)
+        } else if words::is_set(SOFTWARE, shared) {
+            Some(INTERRUPT + SOFTWARE)
+        } else if words::is_set(TIMER, shared) {
+            Some(INTERRUPT + TIMER)
+        } else {
+            None
+        }
+    }
+
+    /// `mtime` goes on by `d` microseconds, modulo 2^64 (RISC-V privileged, 3.2.1).
+    pub fn tick(&mut self, d: u64)
+        ensures { self.new ≡ ticked self.old d }
+    {
+        self.mtime = self.mtime.wrapping_add(d);
+    }
+
+    /// Sets the devices' line, bit 11 of `mip` (RISC-V privileged, 3.1.9).
+    pub fn external(&mut self, on: bool)
+        ensures { self.new ≡ record self.old { external = on } }
+    {
+        self.external = on;
+    }
+
+    /// The software interrupt's line, bit 3 of `mip` (RISC-V privileged, 3.1.9).
+    pub fn msip(&self) -> bool
+        ensures { result ≡ self.now.msip }
+    {
+        self.msip
+    }
+
+    /// Sets the software interrupt's line.
+    pub fn set_msip(&mut self, on: bool)
+        ensures { self.new ≡ record self.old { msip = on } }
+    {
+        self.msip = on;
+    }
+
+    /// The time in microseconds from which the timer's interrupt is pending (RISC-V privileged, 3.2.1).
+    pub fn mtimecmp(&self) -> u64
+        ensures { result ≡ self.now.mtimecmp }
+    {
+        self.mtimecmp
+    }
+
+    /// Sets the time from which the timer's interrupt is pending.
+    pub fn set_mtimecmp(&mut self, value: u64)
+        ensures { self.new ≡ record self.old { mtimecmp = value } }
+    {
+        self.mtimecmp = value;
+    }
+
+    /// The time in microseconds (RISC-V privileged, 3.2.1).
+    pub fn mtime(&self) -> u64
+        ensures { result ≡ self.now.mtime }
+    {
+        self.mtime
+    }
+
+    /// Counts one step more, modulo 2^64, as `mcycle` and `minstret` read it (RISC-V privileged, 3.1.10).
+    pub fn count(&mut self)
+        ensures { self.new ≡ counted self.old }
+    {
+        self.steps = self.steps.wrapping_add(1);
+    }
+
+    /// How many steps were counted.
+    pub fn steps(&self) -> u64
+        ensures { result ≡ self.now.steps }
+    {
+        self.steps
+    }
+
+    /// The values that the registers hold.
+    pub fn fields(&self) -> CsrFields
+        ensures value { result ≡ fields_of self.now }
+        ensures held { IsHeld result }
+    {
+        CsrFields {
+            mstatus: self.mstatus,
+            mie: self.mie,
+            mtvec: self.mtvec,
+            mscratch: self.mscratch,
+            mepc: self.mepc,
+            mcause: self.mcause,
+            mtval: self.mtval,
+            msip: self.msip,
+            mtime: self.mtime,
+            mtimecmp: self.mtimecmp,
+            steps: self.steps,
+        }
+    }
+
+    /// Sets the values that the registers hold, which `CsrFields::is_held` tests. What `external` set stays.
+    pub fn set_fields(&mut self, f: &CsrFields)
+        requires { IsHeld f.now }
+        ensures { self.new ≡ state_of f.now self.old.external }
+    {
+        *self = Csrs::holding(*f, self.external);
+    }
+
+    /// Registers that hold these values, with the devices' line.
+    fn holding(f: CsrFields, external: bool) -> Csrs
+        requires { IsHeld f }
+        ensures { result ≡ state_of f external }
+    {
+        Csrs {
+            mstatus: f.mstatus,
+            mie: f.mie,
+            mtvec: f.mtvec,
+            mscratch: f.mscratch,
+            mepc: f.mepc,
+            mcause: f.mcause,
+            mtval: f.mtval,
+            msip: f.msip,
+            mtime: f.mtime,
+            mtimecmp: f.mtimecmp,
+            steps: f.steps,
+            external,
+        }
+    }
+
+    /// `mip`: bit 3 is the software interrupt's line, bit 7 says that the time has come, bit 11 is the devices' line.
+    fn mip(&self) -> u32
+        ensures { result ≡ mip_of self.now }
+    {
+        let software = if self.msip { 0x8 } else { 0 };
+        let timer = if self.mtime >= self.mtimecmp { 0x80 } else { 0 };
+        let external = if self.external { 0x800 } else { 0 };
+        software + timer + external
+    }
+
+    /// The low half of the count of steps.
+    fn steps_low(&self) -> u32
+        ensures { result ≡ low_half self.now.steps }
+    {
+        (self.steps % 0x1_0000_0000) as u32
+    }
+
+    /// The high half of the count of steps.
+    fn steps_high(&self) -> u32
+        ensures { result ≡ high_half self.now.steps }
+    {
+        (self.steps >> 32) as u32
+    }
+}
