@@ -1,5 +1,5 @@
 -- A store that is not in memory.
-use Rattle.std.proofs.Common.{◌≡◌, ℕ, List, false, refl, sym, ◌∙◌}
+use Rattle.std.proofs.Common.{◌≡◌, ℕ, List, false, refl, sym}
 use Rattle.colo_top.specs.Memory.{is_inside, stored}
 use Rattle.colo_top.specs.Clint.{clint_stored}
 use Rattle.colo_top.specs.Board.{board_stored}

@@ -1,9 +1,9 @@
 -- What the bus of the machine keeps.
-use Rattle.std.proofs.Common.{◌≡◌, ℕ, List, Bool, true, false, ◌||◌, Option, Some, None, IsSome, is_some, if◌then◌else◌, refl, rules, ap, ◌∙◌}
+use Rattle.std.proofs.Common.{◌≡◌, ℕ, Bool, true, false, ◌||◌, Option, Some, None, IsSome, is_some, if◌then◌else◌, refl, rules}
 use Rattle.std.specs.Option.{option_map_or}
 use Rattle.colo_top.specs.Memory.{loaded, is_inside}
 use Rattle.colo_top.specs.Clint.{clint_stores, clint_stored, register_at, Register}
-use Rattle.colo_top.specs.Board.{board_fetched, board_loaded, board_stores, board_stored, or_else}
+use Rattle.colo_top.specs.Board.{board_fetched, board_loaded, board_stores, board_stored}
 use Rattle.colo_top.specs.declared.board.Board.{Board}
 use Rattle.colo_top.specs.declared.clint.Clint.{Clint}
 
