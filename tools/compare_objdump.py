@@ -17,6 +17,8 @@ import sys
 import tempfile
 
 OPCODES = [0x37, 0x17, 0x6F, 0x67, 0x63, 0x03, 0x23, 0x13, 0x33, 0x0F, 0x73, 0x2F]
+# One run of a program may print a megabyte.
+BATCH = 25000
 NAMES = {"FenceI": "fence.i", "Lr": "lr.w", "Sc": "sc.w"}
 OBJDUMPS = ["riscv64-unknown-elf-objdump", "riscv32-unknown-elf-objdump", "riscv64-linux-gnu-objdump"]
 # What objdump calls hints that are instructions of the table.
@@ -91,13 +93,21 @@ def decoded(top, rows, words):
             file.write(program(rows))
         with open(os.path.join(folder, "crates.txt"), "w") as file:
             file.write("rv_isa:\nrv_words: rv_isa\n")
-        run = subprocess.run(["rt", "try"], cwd=place, input="".join("%d\n" % word for word in words),
-                             capture_output=True, text=True)
-        kinds = {name for name, _ in rows} | {"None"}
-        lines = [line for line in run.stdout.splitlines() if line.split() and line.split()[0] in kinds]
-        if len(lines) != len(words):
-            sys.exit("the program printed %d lines for %d words:\n%s" % (len(lines), len(words), run.stderr[-2000:]))
+        lines = []
+        for start in range(0, len(words), BATCH):
+            lines += printed(place, rows, words[start:start + BATCH])
         return lines
+
+
+def printed(place, rows, words):
+    """The lines of one run."""
+    run = subprocess.run(["rt", "try"], cwd=place, input="".join("%d\n" % word for word in words),
+                         capture_output=True, text=True)
+    kinds = {name for name, _ in rows} | {"None"}
+    lines = [line for line in run.stdout.splitlines() if line.split() and line.split()[0] in kinds]
+    if len(lines) != len(words):
+        sys.exit("the program printed %d lines for %d words:\n%s" % (len(lines), len(words), run.stderr[-2000:]))
+    return lines
 
 
 def dumped(objdump, words):
