@@ -10,4 +10,4 @@ no_case_at_boot image m e = go (elf_case ram_size image) refl
   where
     go : (o : Option ℕ) → elf_case ram_size image ≡ o → elf_case ram_size image ≡ None
     go None p = p
-    go (Some n) p = absurd (rw p at e)
+    go (Some n) p = let f : None ≡ Some m = rw p at e in cc

@@ -1,5 +1,5 @@
 -- The machine when it starts (RISC-V privileged, 3.4 "Reset"; the rest is this machine's own).
-use Rattle.std.specs.Prelude.{◌≡◌, ℕ, ◌*◌, ◌^◌, false, List, Option, Some, None, replicate, is_none, if◌then◌else◌}
+use Rattle.std.specs.Prelude.{◌≡◌, ℕ, ◌*◌, ◌^◌, ◌≤◌, false, List, Option, Some, None, replicate, is_none, if◌then◌else◌}
 use Rattle.elf_load.specs.Boot.{elf_case, boot_memory}
 use Rattle.elf_load.specs.Elf.{entry_of}
 use Rattle.rv_traps.specs.Trap.{started}
@@ -27,3 +27,8 @@ boot_state image = if is_none (elf_case ram_size image) then Some (at_boot image
 abbrev pub IsCaseOf : List ℕ → BootFault → Type 0
 IsCaseOf image (Elf fault) = elf_case ram_size image ≡ Some fault.number
 IsCaseOf image NoMemory = Unit {0}
+
+-- the cases of the loader are 1 to 12
+abbrev pub HasNumber : BootFault → Type 0
+HasNumber (Elf fault) = (1 ≤ fault.number) × (fault.number ≤ 12)
+HasNumber NoMemory = Unit {0}

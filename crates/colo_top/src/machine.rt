@@ -4,7 +4,7 @@ ghost use Rattle.std.specs.Prelude.{◌≡◌, ◌<◌, ℕ, Some, None, OnOk, I
 ghost use Rattle.rv_isa.specs.Table.{IsSpelled, decoded};
 ghost use Rattle.rv_traps.specs.Trap.{due};
 ghost use Rattle.rv_core.specs.Effect.{IsWordOf};
-ghost use Rattle.colo_top.specs.Boot.{boot_state, IsCaseOf};
+ghost use Rattle.colo_top.specs.Boot.{boot_state, HasNumber, IsCaseOf};
 ghost use Rattle.colo_top.specs.Machine.{stepped, after_steps, turned, acted, obeyed, performed, trapped};
 
 #[cfg(test)]
@@ -70,6 +70,7 @@ impl Machine {
     pub fn boot(alloc: Global, image: &[u8]) -> Result<Machine, BootFault>
         ensures ok { IfOk result (λ m. boot_state image.now ≡ Some m) }
         ensures fault { IfErr result (IsCaseOf image.now) }
+        ensures number { IfErr result HasNumber }
     {
         let Ok(mut bytes) = vec![in alloc; 0u8; RAM_SIZE] else {
             return Err(BootFault::NoMemory);
