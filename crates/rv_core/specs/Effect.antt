@@ -1,5 +1,5 @@
 -- What each instruction does (RISC-V unprivileged, RV32I, M, A, Zicsr and Zifencei; privileged, MRET and WFI), over any bus.
-use Rattle.std.specs.Prelude.{◌≡◌, ℕ, ◌+◌, ◌*◌, ◌/◌, ◌^◌, ◌<◌, ◌==◌, Bool, true, not, ℤ, bit_and, bit_or, bit_xor, int_lt, nat_lt, Some}
+use Rattle.std.specs.Prelude.{◌≡◌, ℕ, ◌*◌, ◌/◌, ◌^◌, ◌<◌, ◌==◌, Bool, true, not, ℤ, bit_and, bit_or, bit_xor, int_lt, nat_lt, Some}
 use Rattle.std.specs.Int.{w32, bit_not}
 use Rattle.rv_isa.specs.Table.{decoded}
 use Rattle.rv_isa.specs.declared.instr.Instr.{Instr}
