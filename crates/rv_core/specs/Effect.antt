@@ -57,7 +57,7 @@ module _ {S : Type 0} (b : Acts S) (h : Regs) (c : CsrState) (s : S) (w : ℕ) w
   abbrev atomic : ℕ → ℕ → (ℕ → ℕ) → After S
   atomic rd addr new = memory (modifies b h s rd addr new (word_at b s 6 7 addr))
 
-  abbrev pub effect : Instr → After S
+  unfoldable pub effect : Instr → After S
   -- RV32I, 2.4 and 2.5
   effect (Lui rd imm) = registers (puts h rd (imm * 2 ^ 12))
   effect (Auipc rd imm) = registers (puts h rd (sum h.pc (imm * 2 ^ 12)))
