@@ -12,6 +12,7 @@ use crate::instr::Instr;
 pub fn encode(instr: &Instr) -> u32
     requires { IsSpelled instr.now }
     ensures says { decoded result ≡ Some instr.now }
+    ensures word { result ≡ word_of instr.now }
     ensures only { (w : ℕ) → w < 2 ^ 32 → decoded w ≡ Some instr.now → w ≡ result }
 {
     word_of(instr)
