@@ -1,6 +1,6 @@
 -- Arithmetic of words of 32 bits: what each operation of RV32I and RV32M gives.
 -- RISC-V unprivileged, RV32I, 2.4 ("Integer Computational Instructions"), and M ("Multiplication Operations", "Division Operations").
-use Rattle.std.specs.Prelude.{ℕ, ◌+◌, ◌-◌, ◌*◌, ◌/◌, ◌%◌, ◌^◌, ◌==◌, cond, nat_lt, ℤ, pos, ◌*ℤ◌, bit_and, bit_or, bit_xor, int_lt, int_div, int_rem}
+use Rattle.std.specs.Prelude.{ℕ, ◌+◌, ◌-◌, ◌*◌, ◌/◌, ◌%◌, ◌^◌, ◌==◌, cond, nat_lt, ℤ, pos, ◌*ℤ◌, int_lt, int_div, int_rem}
 use Rattle.std.specs.Int.{w32, cast_signed, cast_unsigned, int_shr}
 use Rattle.rv_isa.specs.Fields.{signed}
 

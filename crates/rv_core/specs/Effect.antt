@@ -1,5 +1,5 @@
 -- What each instruction does (RISC-V unprivileged, RV32I, M, A, Zicsr and Zifencei; privileged, MRET and WFI), over any bus.
-use Rattle.std.specs.Prelude.{◌≡◌, ℕ, ◌+◌, ◌*◌, ◌/◌, ◌^◌, ◌<◌, ◌==◌, Bool, true, not, ℤ, bit_and, bit_or, bit_xor, int_lt, nat_lt, Some}
+use Rattle.std.specs.Prelude.{◌≡◌, ℕ, ◌*◌, ◌/◌, ◌^◌, ◌<◌, ◌==◌, Bool, true, not, ℤ, bit_and, bit_or, bit_xor, int_lt, nat_lt, Some}
 use Rattle.std.specs.Int.{w32, bit_not}
 use Rattle.rv_isa.specs.Table.{decoded}
 use Rattle.rv_isa.specs.declared.instr.Instr.{Instr}
@@ -57,7 +57,7 @@ module _ {S : Type 0} (b : Acts S) (h : Regs) (c : CsrState) (s : S) (w : ℕ) w
   abbrev atomic : ℕ → ℕ → (ℕ → ℕ) → After S
   atomic rd addr new = memory (modifies b h s rd addr new (word_at b s 6 7 addr))
 
-  abbrev pub effect : Instr → After S
+  unfoldable pub effect : Instr → After S
   -- RV32I, 2.4 and 2.5
   effect (Lui rd imm) = registers (puts h rd (imm * 2 ^ 12))
   effect (Auipc rd imm) = registers (puts h rd (sum h.pc (imm * 2 ^ 12)))

@@ -1,8 +1,8 @@
 -- What an instruction leaves, by how far it reaches: the registers, the CSRs too, the bus too.
 -- RISC-V unprivileged, RV32I, 2.5 and 2.6, A and Zicsr; the causes of traps: privileged, "Machine Cause Register (mcause)".
-use Rattle.std.specs.Prelude.{◌≡◌, ℕ, ◌%◌, ◌==◌, Bool, cond, ◌&&◌, Option, Some, None, Result, Ok, Err, ok_or}
+use Rattle.std.specs.Prelude.{ℕ, ◌%◌, ◌==◌, Bool, cond, ◌&&◌, Option, Some, None, Result, Ok, Err, ok_or}
 use Rattle.rv_traps.specs.CsrState.{CsrState}
-use Rattle.rv_traps.specs.CsrTable.{read_of, written, is_writable}
+use Rattle.rv_traps.specs.CsrTable.{written, is_writable}
 use Rattle.rv_core.specs.Acts.{Acts}
 use Rattle.rv_core.specs.Registers.{Regs, writes, behind, at_pc, reserving, unreserved}
 use Rattle.rv_core.specs.declared.registers.Outcome.{Outcome}

@@ -27,6 +27,7 @@ impl Hart {
     /// Executes one instruction over a bus, exactly as its row of the instruction table says. It is one
     /// that some word says. `Trap` changes no register, no CSR and no memory. `NoMemory` comes only from
     /// the bus's `store`, and then nothing is said of the hart, the CSRs and the bus.
+    #[tactic(auto, unfolding(crate::specs::Effect::effect))]
     #[inline(always)]
     pub fn execute<B: Bus>(
         &mut self,
@@ -44,6 +45,7 @@ impl Hart {
     }
 
     // The effect alone, with the ranges of the fields.
+    #[tactic(auto, unfolding(crate::specs::Effect::effect))]
     #[inline(always)]
     fn perform<B: Bus>(
         &mut self,
