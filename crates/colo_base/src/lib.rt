@@ -22,3 +22,6 @@ pub use memory_sink::MemorySink;
 pub use outside::{Clock, Heard, Link, Shelf, ShelfFault, Sink};
 pub use real::{FileShelf, OutSink};
 pub use script_clock::ScriptClock;
+
+#[cfg(test)]
+mod tests;
