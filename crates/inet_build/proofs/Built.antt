@@ -4,9 +4,9 @@ use Rattle.std.proofs.lemmas.List.{take_at, drop_at, take_all, drop-drop}
 use Rattle.std.specs.Int.{w16, w32, to_be_bytes}
 use Rattle.std.specs.List.{slice_range}
 use Rattle.inet_frame.specs.Counted.{tcp_in}
-use Rattle.inet_frame.specs.Fields.{TcpFields, HoldsTcp}
-use Rattle.inet_frame.specs.Frame.{IsDatagram, IsSegment, fields_in}
-use Rattle.inet_frame.specs.Place.{two_at, four_at, header_end, datagram_end, data_offset}
+use Rattle.inet_frame.specs.Fields.{TcpFields}
+use Rattle.inet_frame.specs.Frame.{IsSegment, fields_in}
+use Rattle.inet_frame.specs.Place.{two_at, four_at, datagram_end, data_offset}
 use Rattle.inet_frame.specs.Sum.{ones_sum, ones_add, pseudo_sum}
 use Rattle.inet_frame.proofs.OnesSum.{Bytes, ones_sum_fits, ones_add_fits, ones_sum_closed}
 use Rattle.inet_frame.proofs.Segments.{tcp_in_segment}

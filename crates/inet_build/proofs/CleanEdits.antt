@@ -1,18 +1,18 @@
 -- A segment with cleaned options.
-use Rattle.std.proofs.Common.{◌≡◌, ℕ, ◌+◌, ◌-◌, ◌*◌, ◌/◌, ◌<◌, ◌≤◌, Bool, true, false, cond, ◌&&◌, List, [], ◌∷◌, ◌++◌, length, get_or, take, drop, Some, refl, ap, sym, ◌∙◌, arith, subst, ⊎_elim}
-use Rattle.std.proofs.lemmas.Bool.{and_right, and_left, cases_Bool}
+use Rattle.std.proofs.Common.{◌≡◌, ℕ, ◌+◌, ◌-◌, ◌*◌, ◌/◌, ◌<◌, ◌≤◌, Bool, true, false, cond, ◌&&◌, List, ◌++◌, length, get_or, take, drop, Some, refl, ap, sym, ◌∙◌, arith, subst, ⊎_elim}
+use Rattle.std.proofs.lemmas.Bool.{and_right, cases_Bool}
 use Rattle.std.proofs.lemmas.List.{take-append-drop}
 use Rattle.std.specs.List.{slice_range}
 use borrow.Rule.Slice.PartMut.{put_mid}
 use Rattle.inet_frame.specs.Counted.{tcp_in}
-use Rattle.inet_frame.specs.Fields.{TcpFields, tcp_fields}
+use Rattle.inet_frame.specs.Fields.{TcpFields}
 use Rattle.inet_frame.specs.Flags.{has_syn}
 use Rattle.inet_frame.specs.Frame.{IsSegment, fields_in}
 use Rattle.inet_frame.specs.Place.{four_at, header_end, datagram_end, data_offset}
 use Rattle.inet_frame.proofs.OnesSum.{Bytes}
 use Rattle.inet_frame.proofs.Segments.{tcp_in_segment}
 use Rattle.inet_build.proofs.CleanOptions.{length-cleaned_options, cleaned_is_clean, cleaned_same}
-use Rattle.inet_build.proofs.Edits.{Edited, KeepsPlaces, places, same_fields, summed_keeps, edited_segment, edited_fields, same_header_end, summed_before, summed_behind}
+use Rattle.inet_build.proofs.Edits.{Edited, places, same_fields, summed_keeps, edited_segment, edited_fields, same_header_end, summed_before, summed_behind}
 use Rattle.inet_build.proofs.Written.{length-written, written_before, written_behind, range_same, written_range, length-range}
 use Rattle.inet_build.specs.Edit.{written, summed, options_in, needs_cleaning, cleaned, cleaned_fields}
 use Rattle.inet_build.specs.Options.{has_unwanted, cleaned_options}

@@ -1,6 +1,6 @@
 -- Cleaned options, one option at a time.
-use Rattle.std.proofs.Common.{◌≡◌, ℕ, ◌+◌, ◌-◌, ◌^◌, ◌<◌, ◌≤◌, zero, suc, Bool, true, false, cond, ◌||◌, eqb, ltb, List, [], ◌∷◌, ◌++◌, length, get_or, take, drop, refl, ap, sym, ◌∙◌, arith, subst, length-append, length-drop, ⊎_elim}
-use Rattle.std.proofs.lemmas.Bool.{cases_lt, cases_Bool, false≢true}
+use Rattle.std.proofs.Common.{◌≡◌, ℕ, ◌+◌, ◌-◌, ◌^◌, ◌<◌, ◌≤◌, zero, suc, Bool, true, false, cond, ◌||◌, eqb, ltb, List, [], ◌∷◌, ◌++◌, length, take, drop, refl, ap, sym, ◌∙◌, arith, subst, length-append, length-drop, ⊎_elim}
+use Rattle.std.proofs.lemmas.Bool.{cases_lt}
 use Rattle.std.proofs.lemmas.Bool.Decides.{nat_tests}
 use Rattle.std.proofs.lemmas.List.{length-take, length-replicate, take-append-drop, take_at, drop_at, drop-drop, append_assoc, take_rest}
 use Rattle.std.proofs.lemmas.Slice.{take-put_mid, drop-put_mid}
@@ -9,7 +9,7 @@ use Rattle.std.specs.List.{concat, flat_map, list_any}
 use Rattle.std.specs.Prelude.{replicate}
 use Rattle.inet_frame.specs.Options.{option_len, options_of}
 use Rattle.inet_frame.proofs.OptionWalk.{option_len_le, options_of_none, options_of_more}
-use Rattle.inet_build.specs.Options.{is_unwanted, cleaned_option, has_unwanted, behind, cleaned_options}
+use Rattle.inet_build.specs.Options.{is_unwanted, cleaned_option, has_unwanted, cleaned_options}
 
 pub unwanted_none : (xs : List ℕ) → option_len xs ≡ 0 → has_unwanted xs ≡ false
 unwanted_none xs e = ap (λ (os : List (List ℕ)). list_any is_unwanted os) (options_of_none xs e)

@@ -1,21 +1,18 @@
 -- An edited segment is a segment, with all else as it was.
-use Rattle.std.proofs.Common.{◌≡◌, ℕ, ◌+◌, ◌-◌, ◌*◌, ◌/◌, ◌%◌, ◌^◌, ◌<◌, ◌≤◌, zero, suc, Bool, true, false, cond, ◌&&◌, List, [], ◌∷◌, ◌++◌, length, get_or, take, drop, Some, refl, ap, sym, ◌∙◌, arith, subst, ⊎_elim}
+use Rattle.std.proofs.Common.{◌≡◌, ℕ, ◌+◌, ◌-◌, ◌*◌, ◌/◌, ◌%◌, ◌^◌, ◌<◌, ◌≤◌, List, [], ◌∷◌, ◌++◌, length, get_or, Some, refl, ap, sym, ◌∙◌, arith, subst, ⊎_elim}
 use Rattle.std.proofs.lemmas.Bool.{cases_lt}
 use Rattle.std.proofs.lemmas.List.{ext_get_or}
 use Rattle.std.specs.Int.{w16, w32, to_be_bytes}
 use Rattle.std.specs.List.{slice_range}
 use Rattle.inet_frame.specs.Counted.{tcp_in}
-use Rattle.inet_frame.specs.Fields.{TcpFields, HoldsTcp, tcp_fields}
-use Rattle.inet_frame.specs.Flags.{has_syn}
+use Rattle.inet_frame.specs.Fields.{TcpFields, tcp_fields}
 use Rattle.inet_frame.specs.Frame.{IsDatagram, IsSegment, fields_in}
-use Rattle.inet_frame.specs.Place.{two_at, four_at, header_end, datagram_end, data_offset, header_len, total_len}
+use Rattle.inet_frame.specs.Place.{two_at, four_at, header_end, datagram_end, data_offset}
 use Rattle.inet_frame.specs.Sum.{ones_sum, ones_add, pseudo_sum}
 use Rattle.inet_frame.proofs.OnesSum.{Bytes, Bytes_range, ones_sum_fits, ones_add_fits, ones_sum_append, ones_sum_closed}
 use Rattle.inet_frame.proofs.Segments.{tcp_in_segment}
-use Rattle.inet_build.proofs.CleanOptions.{length-cleaned_options, cleaned_is_clean, cleaned_same}
-use Rattle.inet_build.proofs.Written.{length-written, written_before, written_in, written_behind, range_same, range_is, range_split, written_range, written_twice, length-range}
-use Rattle.inet_build.specs.Edit.{written, sum_between, unsummed, summed, shifted, options_in, needs_cleaning, cleaned, shifted_fields, cleaned_fields}
-use Rattle.inet_build.specs.Options.{has_unwanted, cleaned_options}
+use Rattle.inet_build.proofs.Written.{length-written, written_before, written_in, written_behind, range_same, range_split, written_range, written_twice, length-range}
+use Rattle.inet_build.specs.Edit.{written, sum_between, unsummed, summed, shifted, shifted_fields}
 
 -- what an edit behind the sequence number leaves: the length, each byte up to there, and the header's length
 pub record KeepsPlaces (b c : List ℕ) : Type 0 where

@@ -76,11 +76,15 @@ fn a_client_syn_is_cleaned(rt: HostRuntime) {
     let mut frame = CLIENT_SYN;
     assert!(rt; is_tcp(&frame));
     clean_syn(&mut frame);
-    assert_eq!(rt; &frame[54..58], [2, 4, 5, 0xB4].as_slice());
-    assert_eq!(rt; &frame[58..74], [1; 16].as_slice());
-    assert_eq!(rt; word_at(&frame, 50), Some(0xA641));
-    assert_eq!(rt; &frame[..50], &CLIENT_SYN[..50]);
-    assert_eq!(rt; &frame[74..], &CLIENT_SYN[74..]);
+    for ((at, byte), old) in frame.iter().enumerate().zip(&CLIENT_SYN) {
+        let wanted = match at {
+            50 => 0xA6,
+            51 => 0x41,
+            58..=73 => 1,
+            _ => *old,
+        };
+        assert_eq!(rt; *byte, wanted, "at {at}");
+    }
 }
 
 #[test]
@@ -88,10 +92,15 @@ fn an_acknowledgement_is_shifted(rt: HostRuntime) {
     let mut frame = CLIENT_SYN;
     assert!(rt; is_tcp(&frame));
     shift_ack(&mut frame, 0x3000_0000);
-    assert_eq!(rt; &frame[42..46], [0x0E, 0xAD, 0xBE, 0xEF].as_slice());
-    assert_eq!(rt; word_at(&frame, 50), Some(0x6E33));
-    assert_eq!(rt; &frame[..42], &CLIENT_SYN[..42]);
-    assert_eq!(rt; &frame[52..], &CLIENT_SYN[52..]);
+    for ((at, byte), old) in frame.iter().enumerate().zip(&CLIENT_SYN) {
+        let wanted = match at {
+            42 => 0x0E,
+            50 => 0x6E,
+            51 => 0x33,
+            _ => *old,
+        };
+        assert_eq!(rt; *byte, wanted, "at {at}");
+    }
 }
 
 #[test]

@@ -1,9 +1,9 @@
 -- A frame is a TCP segment exactly where the facts of `IsSegment` hold.
-use Rattle.std.proofs.Common.{◌≡◌, ℕ, ◌+◌, ◌<◌, ◌≤◌, Bool, true, false, cond, List, [], ◌∷◌, length, Option, None, Some, refl, ap, sym, arith, not, is_some, IsSome}
+use Rattle.std.proofs.Common.{◌≡◌, ℕ, Bool, true, false, cond, List, [], ◌∷◌, Option, None, Some, refl, ap, sym, arith, is_some, IsSome}
 use Rattle.std.proofs.lemmas.Bool.Decides.{nat_tests}
 use Rattle.inet_frame.specs.Counted.{tcp_of, tcp_in}
-use Rattle.inet_frame.specs.Fields.{TcpFields, ArpFields, UdpFields, HoldsTcp, arp_fields, udp_fields}
-use Rattle.inet_frame.specs.Frame.{IsDatagram, IsSegment, fields_in, first_of, drop_tests, drop_number, kept, seen_by, seen_of, is_arp, is_tcp}
+use Rattle.inet_frame.specs.Fields.{TcpFields, ArpFields, UdpFields, arp_fields, udp_fields}
+use Rattle.inet_frame.specs.Frame.{IsSegment, fields_in, first_of, drop_tests, drop_number, kept, seen_by, seen_of, is_arp, is_tcp}
 use Rattle.inet_frame.specs.Place.{header_end, datagram_end}
 use Rattle.inet_frame.specs.declared.parser.Seen.TheVariants.{Tcp, Arp, Udp}
 

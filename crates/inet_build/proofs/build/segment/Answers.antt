@@ -1,5 +1,5 @@
 -- The bytes parse as what they were made of.
-use Rattle.std.proofs.Common.{◌≡◌, ℕ, ◌<◌, ◌^◌, length, List, ap, ◌∙◌, arith, rules}
+use Rattle.std.proofs.Common.{◌≡◌, ◌<◌, ◌^◌, length, ap, ◌∙◌, arith, rules}
 use Rattle.std.proofs.lemmas.Grind.{common_steps}
 use Rattle.inet_frame.specs.Counted.{tcp_in}
 use Rattle.inet_build.proofs.Built.{segment_parses}

@@ -1,5 +1,5 @@
 -- The sum is made part by part.
-use Rattle.std.proofs.Common.{◌≡◌, ℕ, ◌-◌, List, ap, ◌∙◌}
+use Rattle.std.proofs.Common.{ℕ, ◌-◌, List, ap, ◌∙◌}
 use Rattle.inet_frame.specs.Sum.{ones_sum, pseudo_sum}
 use Rattle.inet_build.proofs.Built.{sum_parts}
 use Rattle.inet_build.specs.Segment.{addresses, mss_option, tcp_bytes}

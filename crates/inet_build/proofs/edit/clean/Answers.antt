@@ -1,5 +1,5 @@
 -- Where no option was overwritten, the frame is as it was.
-use Rattle.std.proofs.Common.{◌≡◌, ◌∙◌, sym, ℕ, ◌+◌, ◌-◌, arith, refl}
+use Rattle.std.proofs.Common.{◌∙◌, sym, ◌+◌, arith, refl}
 use Rattle.inet_build.proofs.CleanEdits.{unclean}
 use Rattle.inet_build.proofs.edit.clean.Goals as goal
 

@@ -1,5 +1,5 @@
 -- The laws of a shifted acknowledgement, at the frame that was given.
-use Rattle.std.proofs.Common.{◌≡◌, ℕ, List, ap, sym, subst, ◌∙◌, arith, Option}
+use Rattle.std.proofs.Common.{ℕ, List, ap, sym, subst, ◌∙◌, arith, Option}
 use Rattle.std.specs.Option.{option_map}
 use Rattle.inet_frame.specs.Counted.{tcp_in}
 use Rattle.inet_frame.specs.Fields.{TcpFields}

@@ -1,5 +1,5 @@
 -- Each turn cleans one option.
-use Rattle.std.proofs.Common.{◌≡◌, ℕ, arith}
+use Rattle.std.proofs.Common.{arith}
 use Rattle.inet_build.proofs.CleanOptions.{walked_put, walked_cleaned, walked_found, found_then, found_else}
 use Rattle.inet_build.proofs.options.clean_options.Goals as goal
 use Rattle.inet_build.proofs.options.clean_options.Goals.{then-clean_option, else-clean_option}
