@@ -1,8 +1,8 @@
 -- The walk over TCP options, one option at a time.
-use Rattle.std.proofs.Common.{◌≡◌, ℕ, ◌+◌, ◌-◌, ◌<◌, ◌≤◌, zero, suc, Bool, true, false, cond, List, [], ◌∷◌, length, take, drop, refl, ap, sym, ◌∙◌, arith, length-drop, eqb, ⊎_elim}
+use Rattle.std.proofs.Common.{◌≡◌, ℕ, ◌<◌, ◌≤◌, zero, suc, false, List, [], ◌∷◌, length, take, drop, refl, ap, ◌∙◌, arith, length-drop, eqb, ⊎_elim}
 use Rattle.std.proofs.lemmas.Bool.{ne_eqb, cases_eq}
 use Rattle.std.proofs.lemmas.Bool.Decides.{nat_tests}
-use Rattle.inet_frame.specs.Options.{option_len, stated_len, options_within, options_of}
+use Rattle.inet_frame.specs.Options.{option_len, options_within, options_of}
 
 pub option_len_le : (bytes : List ℕ) → option_len bytes ≤ length bytes
 option_len_le [] = omega arith

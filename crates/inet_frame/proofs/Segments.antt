@@ -1,9 +1,9 @@
 -- A frame is a TCP segment exactly where the facts of `IsSegment` hold.
-use Rattle.std.proofs.Common.{◌≡◌, ℕ, ◌+◌, ◌<◌, ◌≤◌, Bool, true, false, cond, List, [], ◌∷◌, length, Option, None, Some, refl, arith, not}
+use Rattle.std.proofs.Common.{◌≡◌, ℕ, Bool, true, false, cond, List, [], ◌∷◌, Option, None, Some, refl, ap, sym, arith, is_some, IsSome}
 use Rattle.std.proofs.lemmas.Bool.Decides.{nat_tests}
 use Rattle.inet_frame.specs.Counted.{tcp_of, tcp_in}
-use Rattle.inet_frame.specs.Fields.{TcpFields, ArpFields, UdpFields, HoldsTcp, arp_fields, udp_fields}
-use Rattle.inet_frame.specs.Frame.{IsDatagram, IsSegment, fields_in, first_of, drop_tests, drop_number, kept, seen_by, seen_of, is_arp, is_tcp}
+use Rattle.inet_frame.specs.Fields.{TcpFields, ArpFields, UdpFields, arp_fields, udp_fields}
+use Rattle.inet_frame.specs.Frame.{IsSegment, fields_in, first_of, drop_tests, drop_number, kept, seen_by, seen_of, is_arp, is_tcp}
 use Rattle.inet_frame.specs.Place.{header_end, datagram_end}
 use Rattle.inet_frame.specs.declared.parser.Seen.TheVariants.{Tcp, Arp, Udp}
 
@@ -66,3 +66,13 @@ tcp_in_facts b t h =
 pub tcp_in_segment : (b : List ℕ) → IsSegment b → tcp_in b ≡ Some (fields_in b)
 unfolding seen_of
 tcp_in_segment b s = grind (arith, nat_tests)
+
+some_by : (b : List ℕ) (o : Option TcpFields) → tcp_in b ≡ o → is_some o ≡ true → IsSegment b
+some_by b None e h = absurd (cc)
+some_by b (Some t) e h = (tcp_in_facts b t e).0
+
+pub some_segment : (b : List ℕ) → IsSome (tcp_in b) → IsSegment b
+some_segment b h = some_by b (tcp_in b) refl h
+
+pub tcp_in_seen : (b : List ℕ) (t : TcpFields) → Tcp t ≡ seen_of b → tcp_in b ≡ Some t
+tcp_in_seen b t e = ap tcp_of (sym e)

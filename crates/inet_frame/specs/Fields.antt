@@ -1,5 +1,5 @@
 -- The fields of a frame, read from their places. A part that is a list is the slice of the frame at its place.
-use Rattle.std.specs.Prelude.{ℕ, ◌+◌, ◌<◌, ◌≤◌, List, length, slice_index, slice_range}
+use Rattle.std.specs.Prelude.{ℕ, ◌+◌, ◌≤◌, List, length, slice_index, slice_range}
 use Rattle.inet_frame.specs.Place.{two_at, four_at, data_offset}
 
 -- a TCP segment in IPv4 in Ethernet (IEEE 802.3, 3.1.1; RFC 791, 3.1; RFC 9293, 3.1)

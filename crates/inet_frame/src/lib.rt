@@ -27,7 +27,7 @@ mod why;
 
 pub use arp::{ArpView, arp_reply};
 pub use options::option_len;
-pub use parser::{Seen, parse};
+pub use parser::{Seen, is_tcp, parse};
 pub use sum::{ones_sum, pseudo_sum};
 pub use tcp::TcpView;
 pub use tuple::{GUEST_ADDRESS, GUEST_MAC, Tuple};

@@ -1,4 +1,5 @@
-ghost use Rattle.std.specs.Prelude.{◌≡◌, ◌≤◌, length};
+ghost use Rattle.std.specs.Prelude.{◌≡◌, ◌≤◌, length, is_some};
+ghost use Rattle.inet_frame.specs.Counted.{tcp_in};
 ghost use Rattle.inet_frame.specs.Frame.{seen_of, IsOfType, IsDatagram, transport_sum, is_other_arp};
 
 use crate::arp::ArpView;
@@ -46,6 +47,16 @@ pub fn parse<'a>(frame: &'a [u8]) -> Seen<'a>
         TYPE_ARP => arp(frame),
         TYPE_IPV4 => ipv4(frame),
         _ => Seen::Other(Why::OTHER_TYPE),
+    }
+}
+
+/// Says whether a frame is a TCP segment, for a caller that goes on to change it.
+pub fn is_tcp(frame: &[u8]) -> bool
+    ensures { result ≡ is_some (tcp_in frame.now) }
+{
+    match parse(frame) {
+        Seen::Tcp(_) => true,
+        Seen::Arp(_) | Seen::Udp(_) | Seen::Other(_) => false,
     }
 }
 

@@ -131,3 +131,31 @@ fn sums_are_those_of_the_standard(rt: HostRuntime) {
         0xFFFF
     );
 }
+
+#[test]
+fn an_option_takes_its_stated_length(rt: HostRuntime) {
+    for (options, len) in [
+        ([0, 1, 1, 1].as_slice(), 0),
+        ([1, 3, 3, 7].as_slice(), 1),
+        ([2, 4, 5, 0xB4].as_slice(), 4),
+        ([3, 2].as_slice(), 2),
+        ([3].as_slice(), 0),
+        ([3, 0, 7, 1].as_slice(), 0),
+        ([3, 1, 7, 1].as_slice(), 0),
+        ([8, 5, 0, 0].as_slice(), 0),
+    ] {
+        assert_eq!(rt; option_len(options), len, "of {options:?}");
+    }
+}
+
+#[test]
+fn numbers_stand_at_their_places(rt: HostRuntime) {
+    assert_eq!(rt; place::two(&UDP, 12), 0x0800);
+    assert_eq!(rt; place::four(&UDP, 26), 0x0A00_0202);
+    assert_eq!(rt; (place::header_len(&UDP), place::total_len(&UDP)), (24, 35));
+    assert_eq!(rt; place::data_offset(&TCP, 34), 40);
+    assert_eq!(rt;
+        (is_tcp(&TCP), is_tcp(&UDP), is_tcp(&ARP)),
+        (true, false, false)
+    );
+}

@@ -1,0 +1,5 @@
+pub mod Built
+pub mod CleanEdits
+pub mod CleanOptions
+pub mod Edits
+pub mod Written

@@ -1,0 +1,50 @@
+ghost use Rattle.std.specs.Prelude.{◌≡◌, ◌<◌, [], ◌∷◌, length};
+ghost use Rattle.inet_build.specs.Options as spec;
+
+use inet_frame::option_len;
+
+/// "No operation", the option of one byte (RFC 9293, 3.2).
+const NO_OPERATION: u8 = 1;
+/// Window scale (RFC 7323, 2.2).
+const WINDOW_SCALE: u8 = 3;
+/// Selective acknowledgements permitted (RFC 2018, 2).
+const SACK_PERMITTED: u8 = 4;
+/// Timestamps (RFC 7323, 3.2).
+const TIMESTAMPS: u8 = 8;
+
+/// Cleans the options of a TCP header in place, and says whether one was overwritten.
+pub(crate) fn clean_options(options: &mut [u8]) -> bool
+    ensures cleaned { options.new ≡ spec.cleaned_options options.old }
+    ensures found { result ≡ spec.has_unwanted options.old }
+{
+    let mut found = false;
+    let mut at = 0;
+    let mut len = option_len(options);
+    while len > 0 {
+        if clean_option(&mut options[at..at + len]) {
+            found = true;
+        }
+        at += len;
+        len = option_len(&options[at..]);
+    }
+    found
+}
+
+/// Overwrites an unwanted option, and says whether it was one.
+fn clean_option(option: &mut [u8]) -> bool
+    requires { 0 < length option.old }
+    ensures cleaned { option.new ≡ spec.cleaned_option option.old }
+    ensures unwanted { result ≡ spec.is_unwanted option.old }
+{
+    let unwanted = is_unwanted(option[0]);
+    if unwanted {
+        option.fill(NO_OPERATION);
+    }
+    unwanted
+}
+
+fn is_unwanted(kind: u8) -> bool
+    ensures { result ≡ spec.is_unwanted (kind ∷ []) }
+{
+    kind == WINDOW_SCALE || kind == SACK_PERMITTED || kind == TIMESTAMPS
+}
