@@ -8,3 +8,7 @@ pub mod WordTexts
 pub mod Writes
 pub mod CaseTexts
 pub mod Readiness
+pub mod Replaying
+pub mod Same
+pub mod Endings
+pub mod Ends

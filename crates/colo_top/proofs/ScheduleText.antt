@@ -27,7 +27,7 @@ pub flag_small : (b : Bool) → flag b ≤ 1
 flag_small true = omega arith
 flag_small false = omega arith
 
-flag_back : (b : Bool) → nat_eq (flag b) 1 ≡ b
+pub flag_back : (b : Bool) → nat_eq (flag b) 1 ≡ b
 flag_back true = refl
 flag_back false = refl
 
@@ -62,11 +62,11 @@ pub shorter : (rest after : List ℕ) (t : Turn) → rest ≡ line_text t ++ aft
 shorter rest after t e =
     omega (arith, ap length (e ∙ line_text_from_front t after), length-append (decimal t.ticks) (32 ∷ from_receives t after), length-append (decimal (flag t.receives)) (32 ∷ from_requests t after), length-append (decimal t.requests) (32 ∷ from_steps t after), length-append (decimal t.steps) (10 ∷ after))
 
-schedule_none : schedule_text [] ≡ []
+pub schedule_none : schedule_text [] ≡ []
 unfolding schedule_text
 schedule_none = refl
 
-schedule_first : (t : Turn) (ts : List Turn) → schedule_text (t ∷ ts) ≡ line_text t ++ schedule_text ts
+pub schedule_first : (t : Turn) (ts : List Turn) → schedule_text (t ∷ ts) ≡ line_text t ++ schedule_text ts
 unfolding schedule_text
 schedule_first t ts = refl
 

@@ -5,14 +5,15 @@ use Rattle.colo_base.specs.Sink.{SinkState, Puts, PutsPart}
 use Rattle.colo_base.specs.Count.{Rose}
 use Rattle.elf_load.specs.Boot.{elf_case}
 use Rattle.colo_top.specs.declared.schedule.Turn.{Turn}
+use Rattle.colo_top.specs.declared.fault.Fault.{Fault}
 use Rattle.colo_top.specs.Words.{Replay, Spells}
 use Rattle.colo_top.specs.Boot.{ram_size}
-use Rattle.colo_top.specs.FaultLines.{image_line}
+use Rattle.colo_top.specs.FaultLines.{image_line, line_of, status_of}
 use Rattle.colo_top.specs.Machine.{State}
 use Rattle.colo_top.specs.Run.{run_from}
 use Rattle.colo_top.specs.Files.{IsOutput, WriteFailed}
 use Rattle.colo_top.specs.Inputs.{Texts, ReadFailed, IsNotBuilt}
-use Rattle.colo_top.specs.Ends.{KeepsFiles, IsReady, Replays, HasCase, FailsToRead, FailsToWrite, WantsMemory, IsLeftOut, StopsShort}
+use Rattle.colo_top.specs.Ends.{KeepsFiles, IsReady, Replays, HasCase, FailsToRead, FailsToWrite, WantsMemory, IsLeftOut, StopsShort, EndsBy}
 
 -- the statuses of the program
 abbrev pub IsStatus : ℕ → Type 0
@@ -126,3 +127,33 @@ Completes words old new before after status =
 -- the name is that of a file that the words' command writes
 abbrev pub IsWritten : List (List ℕ) → List ℕ → Type 0
 IsWritten words name = (command : Replay) × Spells words command × IsOutput command.out name
+
+-- ---- the three ways to end, of which the clauses above speak one by one
+
+-- the words spell no command
+pub record EndsMisspelled (words : List (List ℕ)) (old new : ShelfState) (before after : SinkState) (ends : ℕ) : Type 0 where
+  pub status : ends ≡ 1
+  pub misspelled : IsMisspelled words
+  pub files : KeepsFiles old new
+  pub put : Prints before after (codes "usage\n")
+
+-- the files are whole, and the summary was put or not
+pub record EndsWhole (words : List (List ℕ)) (old new : ShelfState) (before after : SinkState) (status : ℕ) : Type 0 where
+  pub command : Replay
+  pub spelled : Spells words command
+  pub line : List ℕ
+  pub run : Replays command old new line
+  pub put : ((status ≡ 0) × Puts before after line) ⊎ ((status ≡ 7) × PutsPart before after line × Rose before.faults after.faults)
+
+-- a fault ended it
+pub record EndsFaulty (words : List (List ℕ)) (old new : ShelfState) (before after : SinkState) (ends : ℕ) : Type 0 where
+  pub command : Replay
+  pub spelled : Spells words command
+  pub fault : Fault
+  pub run : EndsBy command old new fault
+  pub status : ends ≡ status_of fault
+  pub put : Prints before after (line_of fault)
+
+abbrev pub Ended : List (List ℕ) → ShelfState → ShelfState → SinkState → SinkState → ℕ → Type 0
+Ended words old new before after status =
+    EndsMisspelled words old new before after status ⊎ (EndsWhole words old new before after status ⊎ EndsFaulty words old new before after status)

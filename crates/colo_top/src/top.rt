@@ -5,7 +5,7 @@ ghost use Rattle.colo_base.specs.Count.{Rose};
 ghost use Rattle.colo_base.specs.Shelf.{ChangesOnly};
 ghost use Rattle.colo_base.specs.Sink.{SinkGoesOn, Puts, PutsPart};
 ghost use Rattle.colo_top.specs.Ends.{KeepsFiles};
-ghost use Rattle.colo_top.specs.Top.{Completes, FindsCase, FindsLeftOut, FindsStop, IsCase, IsDone, IsMisspelled, IsOutOfMemory, IsStatus, IsUnbuilt, IsUnread, IsUnwritten, IsWritten, Prints};
+ghost use Rattle.colo_top.specs.Top.{Completes, Ended, FindsCase, FindsLeftOut, FindsStop, IsCase, IsDone, IsMisspelled, IsOutOfMemory, IsStatus, IsUnbuilt, IsUnread, IsUnwritten, IsWritten, Prints};
 ghost use Rattle.colo_top.specs.Words.{texts};
 
 use crate::run::replay;
@@ -52,6 +52,14 @@ pub fn colo<S: Shelf, L: Link, K: Clock, O: Sink>(alloc: Global, words: &[String
     ensures puts { SinkGoesOn (O.state out.old) (O.state out.new) }
     ensures link { link.new ≡ link.old }
     ensures clock { clock.new ≡ clock.old }
+{
+    end_of(alloc, words, shelf, out)
+}
+
+/// Carries out the command that the words spell, and puts its line.
+fn end_of<S: Shelf, O: Sink>(alloc: Global, words: &[String], shelf: &mut S, out: &mut O) -> u8
+    ensures ended { Ended (texts words.now) (S.state shelf.old) (S.state shelf.new) (O.state out.old) (O.state out.new) result }
+    ensures puts { SinkGoesOn (O.state out.old) (O.state out.new) }
 {
     let Some(command) = read_words(words) else {
         return fail(out, b"usage\n", 1);

@@ -1,20 +1,20 @@
-use Rattle.std.proofs.Common.{rules, ◌≡◌, ◌++◌, Some, IfOk, IfErr, OnOk, OnErr, IsErrOf, string_bytes, ℕ, ◌+◌, ◌-◌, ◌*◌, ◌<◌, ◌≤◌, length, ◌/◌, ◌%◌, Bool, true, false, nat_eq, nat_lt, List, [], ◌∷◌, slice_index_or, slice_set, bit_and, bit_or, Fits, w8, w32, w64, Bor, MutBor}
+-- The files were read, and what they make was carried out.
+use Rattle.std.proofs.Common.{ℕ, List, subst}
+use Rattle.std.proofs.lemmas.Result.{IfOk-weaker, MatchResult-weaker}
+use Rattle.std.specs.String.{string_bytes}
 use Rattle.colo_top.specs.Command.{replay_of}
-use Rattle.colo_top.specs.Ends.{EndsBy, Replays}
-use Rattle.colo_top.specs.FaultLines.{HasLine}
-use Rattle.colo_top.specs.Files.{WriteFailed}
-use Rattle.colo_top.specs.Idle.{idle_event}
-use Rattle.colo_top.specs.Log.{event_text}
-use Rattle.colo_top.specs.Machine.{turned}
-use Rattle.colo_top.specs.Run.{run_from}
-use Rattle.colo_top.specs.RunSteps.{fault_of_read, fault_of_turn, fault_of_write, Logs, WritesLast, WritesLastPart, TurnEnds, RunEnds, CarriesOut, CarryEnds}
-use Rattle.colo_top.specs.Steps.{Appends}
+use Rattle.colo_top.specs.InputTexts.{texts_of}
+use Rattle.colo_top.specs.RunSteps.{CarriesOut, CarryEnds}
+use Rattle.colo_top.proofs.Replaying.{whole_from, ends_from}
 use Rattle.colo_top.proofs.run.replay.Goals as goal
 
--- src/run.rt:114:1
 pub returns-clause-whole : goal.returns-clause-whole
-returns-clause-whole g c = ?
+returns-clause-whole g c =
+    IfOk-weaker c.carry_out.result _ _
+    (λ line h. whole_from (replay_of c.args.command.now) (g.S.Shelf.state c.args.shelf.now) (g.S.Shelf.state c.read_all.new.shelf) (g.S.Shelf.state c.carry_out.new.shelf) (texts_of c.in-Ok.inputs) c.in_ok-ready.ready.turns.items c.in_ok-ready.ready.machine c.in-Ok.ensures.read c.in-Ok.ensures.files c.in_ok-ready.ensures.ready (string_bytes line) (let P : List ℕ → Type 0 = λ disk. CarriesOut (g.S.Shelf.state c.read_all.new.shelf) (g.S.Shelf.state c.carry_out.new.shelf) c.args.command.now.out.now c.in_ok-ready.ready.machine c.in_ok-ready.ready.turns.items disk (string_bytes line) in subst P c.deref.ensures.value h))
+    c.carry_out.ensures.whole
 
--- src/run.rt:114:1
 pub returns-clause-ends : goal.returns-clause-ends
-returns-clause-ends g c = ?
+returns-clause-ends g c =
+    MatchResult-weaker c.carry_out.result c.carry_out.ensures.ends (λ line h. h)
+    (λ fault h. ends_from (replay_of c.args.command.now) (g.S.Shelf.state c.args.shelf.now) (g.S.Shelf.state c.read_all.new.shelf) (g.S.Shelf.state c.carry_out.new.shelf) (texts_of c.in-Ok.inputs) c.in_ok-ready.ready.turns.items c.in_ok-ready.ready.machine c.in-Ok.ensures.read c.in-Ok.ensures.files c.in_ok-ready.ensures.ready fault (let P : List ℕ → Type 0 = λ disk. CarryEnds (g.S.Shelf.state c.read_all.new.shelf) (g.S.Shelf.state c.carry_out.new.shelf) c.args.command.now.out.now c.in_ok-ready.ready.machine c.in_ok-ready.ready.turns.items disk fault in subst P c.deref.ensures.value h))
