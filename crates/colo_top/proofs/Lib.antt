@@ -7,3 +7,4 @@ pub mod LogText
 pub mod WordTexts
 pub mod Writes
 pub mod CaseTexts
+pub mod Runs
