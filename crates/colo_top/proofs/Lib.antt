@@ -8,3 +8,4 @@ pub mod WordTexts
 pub mod Writes
 pub mod CaseTexts
 pub mod Runs
+pub mod Carries

@@ -1,5 +1,5 @@
 -- What the steps of a run leave, one after the other.
-use Rattle.std.proofs.Common.{◌≡◌, ℕ, ◌+◌, ◌<◌, ◌≤◌, length, List, [], ◌∷◌, ◌++◌, Some, None, ◌⊎◌, inl, inr, refl, sym, ap, ◌∙◌, subst, take, drop, get_or, Err, Result, IsErrOf}
+use Rattle.std.proofs.Common.{◌≡◌, ℕ, ◌+◌, ◌<◌, ◌≤◌, length, List, [], ◌∷◌, ◌++◌, Some, None, ◌⊎◌, false, inl, inr, refl, sym, ap, ◌∙◌, subst, take, drop, get_or, Err, Result, IsErrOf}
 use Rattle.std.specs.Io.{StartsWith}
 use Rattle.std.specs.Prelude.{fold, map, flat_map}
 use Rattle.std.proofs.lemmas.List.{append-nil, append_assoc, map-append, take_more, take_all, drop_more, take-append-drop}
@@ -127,8 +127,19 @@ module _ (start now : ShelfState) (out : List ℕ) (machine here : State) (made 
       let P : ShelfState → Type 0 = λ s. Logs start s out made in
       record { front = made; turn = turn; back = back; split = split; last = here; ran = so_far.ran; stopped = turned_none ends.1; logged = subst P (sym ends.0) so_far.logged }
 
-pub split_at_turn : (turns : List Turn) (i : ℕ) (d : Turn) → i < length turns → turns ≡ take i turns ++ (get_or turns i d ∷ drop (i + 1) turns)
-split_at_turn turns i d h = sym (take-append-drop i turns) ∙ ap (λ rest. take i turns ++ rest) (drop_more turns i d h)
+-- what an index past the turns gives
+abbrev pub no_turn : Turn
+no_turn = record { ticks = 0; receives = false; requests = 0; steps = 0 }
+
+pub split_at_turn : (turns : List Turn) (i : ℕ) → i < length turns → turns ≡ take i turns ++ (get_or turns i no_turn ∷ drop (i + 1) turns)
+split_at_turn turns i h = sym (take-append-drop i turns) ∙ ap (λ rest. take i turns ++ rest) (drop_more turns i no_turn h)
+
+pub run_next_at : (start now new : ShelfState) (out : List ℕ) (machine here last : State) (turns : List Turn) (i : ℕ) → i < length turns → RunGoesOn start now out machine here (take i turns) →
+    turned here (get_or turns i no_turn).ticks (get_or turns i no_turn).steps ≡ Some last → Appends now new out Log (event_text (idle_event (get_or turns i no_turn))) → ChangesOnly (IsOutput out) now new →
+    RunGoesOn start new out machine last (take (i + 1) turns)
+run_next_at start now new out machine here last turns i h so_far ran appended change =
+    let P : List Turn → Type 0 = λ made. RunGoesOn start new out machine last made in
+    subst P (sym (take_more turns i no_turn h)) (run_next start now out machine here (take i turns) so_far (get_or turns i no_turn) new last ran appended change)
 
 pub run_whole : (start now : ShelfState) (out : List ℕ) (machine last : State) (turns : List Turn) (n : ℕ) → length turns ≤ n → RunGoesOn start now out machine last (take n turns) → RunGoesOn start now out machine last turns
 run_whole start now out machine last turns n enough so_far =
