@@ -54,6 +54,7 @@ fn name_of(alloc: Global, out: &str, output: Output) -> Result<String, AllocErro
 pub fn append_to<S: Shelf>(alloc: Global, shelf: &mut S, out: &str, output: Output, bytes: &[u8]) -> Result<(), ShelfFault>
     ensures ok { OnOk result (Appends (S.state shelf.old) (S.state shelf.new) out.now output bytes.now) }
     ensures err { OnErr result (AppendsPart (S.state shelf.old) (S.state shelf.new) out.now output bytes.now) }
+    ensures only { ChangesOnly (IsOutput out.now) (S.state shelf.old) (S.state shelf.new) }
     ensures cause { IsErrOf result ShelfFault.Failed → WriteFailed (S.state shelf.old) (S.state shelf.new) out.now }
 {
     let name = name_of(alloc, out, output)?;

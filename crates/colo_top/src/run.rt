@@ -1,10 +1,11 @@
 //! The run of a replay and the files that it writes.
 
 ghost use Rattle.std.specs.Prelude.{◌≡◌, ◌++◌, Some, IfOk, IfErr, OnOk, OnErr, IsErrOf, string_bytes};
+ghost use Rattle.colo_base.specs.Shelf.{ChangesOnly};
 ghost use Rattle.colo_top.specs.Command.{replay_of};
 ghost use Rattle.colo_top.specs.Ends.{EndsBy, Replays};
 ghost use Rattle.colo_top.specs.FaultLines.{HasLine};
-ghost use Rattle.colo_top.specs.Files.{WriteFailed};
+ghost use Rattle.colo_top.specs.Files.{IsOutput, WriteFailed};
 ghost use Rattle.colo_top.specs.Idle.{idle_event};
 ghost use Rattle.colo_top.specs.Log.{event_text};
 ghost use Rattle.colo_top.specs.Machine.{turned};
@@ -57,6 +58,7 @@ fn turn_fault(fault: TurnFault) -> Fault
 fn run_turn<S: Shelf>(alloc: Global, shelf: &mut S, out: &str, machine: &mut Machine, turn: &Turn) -> Result<(), Fault>
     ensures ran { OnOk result (turned machine.old turn.now.ticks turn.now.steps ≡ Some machine.new) }
     ensures logged { OnOk result (Appends (S.state shelf.old) (S.state shelf.new) out.now Output.Log (event_text (idle_event turn.now))) }
+    ensures only { ChangesOnly (IsOutput out.now) (S.state shelf.old) (S.state shelf.new) }
     ensures ends { IfErr result (TurnEnds (S.state shelf.old) (S.state shelf.new) out.now machine.old turn.now) }
 {
     if let Err(fault) = machine.turn(turn.ticks, turn.steps) {
