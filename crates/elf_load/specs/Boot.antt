@@ -1,4 +1,6 @@
--- What the machine's memory holds at boot, and why an image is refused. Memory begins at 0x80000000.
+-- What the machine's memory holds at boot, and why an image is refused: Tool Interface Standard, Executable and
+-- Linking Format 1.2, book I, "ELF Header" and "Program Header", with p_paddr as a segment's place. Memory begins
+-- at 0x80000000.
 use Rattle.std.specs.Prelude.{ℕ, ◌+◌, ◌-◌, ◌*◌, ◌%◌, ◌==◌, Bool, not, ◌&&◌, ◌||◌, nat_lt, nat_le, nat_eq, if◌then◌else◌, Option, Some, None, List, [], ◌∷◌, ◌++◌, length, take, drop, replicate, fold, slice_index, slice_range}
 use Rattle.std.specs.List.{list_any, list_all, starts_with}
 use Rattle.elf_load.specs.declared.header.ProgramHeader.{ProgramHeader}
@@ -39,26 +41,27 @@ is_empty segment = segment.memory_size == 0
 abbrev pub can_start : ℕ → ℕ → Bool
 can_start size address = is_inside size address 1 && (address % 4 == 0)
 
--- the cases of the file header and the place of the program header table
+-- the cases of the file header and the place of the program header table. Beside each stands what
+-- it is that fails
 abbrev pub file_cases : List ℕ → List Case
 file_cases bytes =
-    (1, nat_lt (length bytes) 52)
-    ∷ (2, not (starts_with nat_eq bytes (0x7F ∷ 0x45 ∷ 0x4C ∷ 0x46 ∷ [])))
-    ∷ (3, not (slice_index bytes 4 == 1))
-    ∷ (4, not (slice_index bytes 5 == 1))
-    ∷ (5, not (half_at bytes 16 == 2))
-    ∷ (6, not (half_at bytes 18 == 243))
-    ∷ (7, not (half_at bytes 42 == 32))
-    ∷ (8, nat_lt (length bytes) (table_place bytes + 32 * table_count bytes))
+    (1, nat_lt (length bytes) 52)  -- a file header has 52 bytes
+    ∷ (2, not (starts_with nat_eq bytes (0x7F ∷ 0x45 ∷ 0x4C ∷ 0x46 ∷ [])))  -- EI_MAG0 to EI_MAG3: 7F, E, L, F
+    ∷ (3, not (slice_index bytes 4 == 1))  -- EI_CLASS: ELFCLASS32
+    ∷ (4, not (slice_index bytes 5 == 1))  -- EI_DATA: ELFDATA2LSB
+    ∷ (5, not (half_at bytes 16 == 2))  -- e_type: ET_EXEC
+    ∷ (6, not (half_at bytes 18 == 243))  -- e_machine: EM_RISCV
+    ∷ (7, not (half_at bytes 42 == 32))  -- e_phentsize
+    ∷ (8, nat_lt (length bytes) (table_place bytes + 32 * table_count bytes))  -- the table is in the file
     ∷ []
 
 -- the cases of the segments and the entry, for memory of this size
 abbrev pub segment_cases : ℕ → List ℕ → List Case
 segment_cases size bytes =
-    (9, list_any (overruns (length bytes)) (segments bytes))
-    ∷ (10, list_any (lies_outside size) (segments bytes))
-    ∷ (11, list_all is_empty (segments bytes))
-    ∷ (12, not (can_start size (entry_of bytes)))
+    (9, list_any (overruns (length bytes)) (segments bytes))  -- the bytes of each segment are in the file, and fit
+    ∷ (10, list_any (lies_outside size) (segments bytes))  -- each segment is in memory
+    ∷ (11, list_all is_empty (segments bytes))  -- some segment has bytes in memory
+    ∷ (12, not (can_start size (entry_of bytes)))  -- e_entry is in memory, and a multiple of 4
     ∷ []
 
 -- the first case that holds of an image, for memory of this size

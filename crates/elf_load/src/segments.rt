@@ -72,7 +72,7 @@ pub(crate) fn is_inside(address: u32, n: u32, size: usize) -> bool
 }
 
 /// Tests the segments to be loaded, for memory of this size.
-#[tactic(auto, using(crate::proofs::Table::up_to_none, crate::proofs::Table::up_to_loaded, crate::proofs::Table::up_to_skipped, crate::proofs::Table::up_to_all, crate::proofs::Table::any_push, crate::proofs::Table::all_push, crate::proofs::Table::any_up_to))]
+#[tactic(auto, using(crate::proofs::Table::up_to_all))]
 pub(crate) fn check_segments(bytes: &[u8], size: usize) -> Result<(), ElfFault>
     requires small { size ≤ 67108864 }
     requires long { 52 ≤ length bytes.now }

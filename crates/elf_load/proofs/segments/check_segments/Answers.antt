@@ -1,6 +1,6 @@
 use Rattle.std.proofs.Common.{◌||◌, ◌&&◌, ap, ◌∙◌, refl, arith, length}
 use Rattle.elf_load.specs.Boot.{overruns}
-use Rattle.elf_load.proofs.Table.{found_loaded, found_skipped, some_segment}
+use Rattle.elf_load.proofs.Table.{found_none, found_loaded, found_skipped, some_segment}
 use Rattle.elf_load.proofs.segments.check_segments.Goals as goal
 use Rattle.elf_load.proofs.segments.check_segments.Goals.{then-is_load+else-overruns, else-is_load}
 
@@ -8,6 +8,9 @@ pub returns-then-overruns-clause-err : goal.returns-then-overruns-clause-err
 returns-then-overruns-clause-err c =
     rw (some_segment c.args.bytes.now c.loop-k.k (overruns (length c.args.bytes.now)) c.header-segment.result
     (omega arith) c.header-segment.ensures c.if-is_load.ensures c.if-overruns.ensures) refl
+
+pub loop-k-init : goal.loop-k-init
+loop-k-init c = found_none c.args.bytes.now c.args.size
 
 pub loop-k-preserved : goal.loop-k-preserved
 loop-k-preserved c = elim c.if-is_load.branch [
