@@ -25,7 +25,13 @@ const SOFTWARE_INTERRUPT: [u32; 32] = [
     0x0200_02B7, // lui x5, 0x2000
     0x0030_0393, // addi x7, x0, 3
     0x0072_A023, // sw x7, 0(x5)
-    0, 0, 0, 0, 0, 0, 0, //
+    0,
+    0,
+    0,
+    0,
+    0,
+    0,
+    0, //
     0x0002_A503, // lw x10, 0(x5)
     0x3420_25F3, // csrrs x11, mcause, x0
     0x3410_2673, // csrrs x12, mepc, x0
@@ -36,7 +42,12 @@ const SOFTWARE_INTERRUPT: [u32; 32] = [
     0x10D4_2623, // sw x13, 268(x8)
     0x1000_12B7, // lui x5, 0x10001
     0x0002_A503, // lw x10, 0(x5)
-    0, 0, 0, 0, 0, 0,
+    0,
+    0,
+    0,
+    0,
+    0,
+    0,
 ];
 
 /// The line, the cause, the address behind the store, and the 13 steps before.
