@@ -1,5 +1,5 @@
 -- How a whole run ends, from how its parts do.
-use Rattle.std.proofs.Common.{◌≡◌, ℕ, List, [], ◌∷◌, ◌++◌, Some, inl, inr, refl, sym, ap, ◌∙◌, subst}
+use Rattle.std.proofs.Common.{◌≡◌, ℕ, List, [], Some, inr, refl, sym, subst}
 use Rattle.std.specs.Io.{StartsWith}
 use Rattle.std.proofs.lemmas.List.{append-nil}
 use Rattle.colo_base.specs.declared.outside.ShelfFault.{ShelfFault}
@@ -20,7 +20,6 @@ use Rattle.colo_top.proofs.Writes.{write_failed_from}
 -- ---- the files were created, and the run broke off
 
 module _ (old mid new : ShelfState) (out : List ℕ) (created : Writing old mid out no_bytes) (machine : State) (turns : List Turn) (disk : List ℕ) where
-
   breaks_in_run : RunBreaks mid new out machine turns → CarryBreaks old new out machine turns disk
   breaks_in_run broke =
       let p = broke.logged old created in
@@ -53,7 +52,6 @@ module _ (old mid new : ShelfState) (out : List ℕ) (created : Writing old mid 
 -- ---- the run was made to its end
 
 module _ (old mid ran new : ShelfState) (out : List ℕ) (created : Writing old mid out no_bytes) (machine last : State) (turns : List Turn) (made : run_from machine turns ≡ Some last) (logged : Logs mid ran out turns) (ram disk : List ℕ) (memory : ram ≡ last.memory) where
-
   log_written : Writing old ran out (record { log = log_text (idle_events turns); released = []; wire = []; ram = []; disk = [] })
   log_written = logged old created
 

@@ -1,28 +1,26 @@
 -- What the steps of a run leave, one after the other.
-use Rattle.std.proofs.Common.{◌≡◌, ℕ, ◌+◌, ◌<◌, ◌≤◌, length, List, [], ◌∷◌, ◌++◌, Some, None, ◌⊎◌, false, inl, inr, refl, sym, ap, ◌∙◌, subst, take, drop, get_or, Err, Result, IsErrOf}
+use Rattle.std.proofs.Common.{◌≡◌, ℕ, ◌+◌, ◌<◌, ◌≤◌, length, List, [], ◌∷◌, ◌++◌, Some, None, false, inl, inr, refl, sym, ap, ◌∙◌, subst, take, drop, get_or}
 use Rattle.std.specs.Io.{StartsWith}
-use Rattle.std.specs.Prelude.{fold, map, flat_map}
+use Rattle.std.specs.Prelude.{map, flat_map}
 use Rattle.std.proofs.lemmas.List.{append-nil, append_assoc, map-append, take_more, take_all, drop_more, take-append-drop}
 use Rattle.std.proofs.lemmas.List.Concat.{flat_map-append}
 use Rattle.std.proofs.lemmas.List.Sums.{fold_push}
 use Rattle.colo_base.specs.declared.outside.ShelfFault.{ShelfFault}
 use Rattle.colo_base.specs.declared.outside.ShelfFault.TheVariants.{Failed, NoMemory as shelf_memory}
 use Rattle.colo_base.specs.Shelf.{ShelfState, ChangesOnly}
-use Rattle.colo_base.proofs.States.{changes_none, changes_then, changes_wider, front_itself, front_append, front_more}
+use Rattle.colo_base.proofs.States.{changes_none, changes_then, changes_wider, front_itself, front_more}
 use Rattle.colo_top.specs.declared.output.Output.{Output}
 use Rattle.colo_top.specs.declared.output.Output.TheVariants.{Log, Ram, Disk}
 use Rattle.colo_top.specs.declared.schedule.Turn.{Turn}
 use Rattle.colo_top.specs.declared.fault.Fault.{Fault}
 use Rattle.colo_top.specs.declared.fault.Fault.TheVariants.{Image, Read, Write, NoMemory, NotBuilt}
-use Rattle.colo_top.specs.declared.machine.TurnFault.{TurnFault}
-use Rattle.colo_top.specs.declared.machine.TurnFault.TheVariants.{NotBuilt as turn_not_built, NoMemory as turn_memory}
-use Rattle.colo_top.specs.Files.{file_name, OutFiles, no_bytes, with_more, IsOutput, Writing, Creating, WriteFailed}
+use Rattle.colo_top.specs.Files.{file_name, with_more, IsOutput, Writing, WriteFailed}
 use Rattle.colo_top.specs.Steps.{Appends, AppendsPart}
 use Rattle.colo_top.specs.Log.{event_text, log_text}
 use Rattle.colo_top.specs.Idle.{idle_event, idle_events}
 use Rattle.colo_top.specs.Machine.{State, turned}
 use Rattle.colo_top.specs.Run.{run_from, next_state}
-use Rattle.colo_top.specs.RunSteps.{fault_of_turn, fault_of_write, log_alone, Logs, LogsPart, TurnBreaks, TurnEnds, RunBreaks, RunStops, RunEnds, WritesLast, WritesLastPart}
+use Rattle.colo_top.specs.RunSteps.{fault_of_write, log_alone, Logs, LogsPart, TurnBreaks, TurnEnds, RunBreaks, RunEnds, WritesLast, WritesLastPart}
 use Rattle.colo_top.proofs.Writes.{write_failed_from}
 
 -- ---- a step of writing
@@ -83,7 +81,6 @@ log_one_more made turn =
     ∙ ap (λ text. flat_map event_text (map idle_event made) ++ text) (append-nil (event_text (idle_event turn))))
 
 module _ (start now : ShelfState) (out : List ℕ) (machine here : State) (made : List Turn) (so_far : RunGoesOn start now out machine here made) (turn : Turn) where
-
   turned_next : (last : State) → turned here turn.ticks turn.steps ≡ Some last → run_from machine (made ++ (turn ∷ [])) ≡ Some last
   turned_next last ran = run_one_more machine made turn ∙ (ap (λ s. next_state s turn) so_far.ran ∙ ran)
 

@@ -11,14 +11,14 @@ pub returns-in_err-run_turn-clause-ends : goal.returns-in_err-run_turn-clause-en
 returns-in_err-run_turn-clause-ends g c =
     let p = err_from_is_err_and c.from_residual.result c.from_residual.ensures.1 in
     rw (p.1, p.2)
-        (run_ends (g.S.Shelf.state c.args.shelf.now) (g.S.Shelf.state c.loop-turn.shelf) c.args.out.now c.args.machine.now c.loop-turn.machine (take c.loop-turn.turn-index c.args.turns.now) c.loop-turn.invariant
-            (get_or c.args.turns.now c.loop-turn.turn-index no_turn) (g.S.Shelf.state c.run_turn.new.shelf) c.args.turns.now (drop (c.loop-turn.turn-index + 1) c.args.turns.now) c.in_err-run_turn.field-0.0
-            (split_at_turn c.args.turns.now c.loop-turn.turn-index (omega arith)) c.in_err-run_turn.ensures.ends)
+    (run_ends (g.S.Shelf.state c.args.shelf.now) (g.S.Shelf.state c.loop-turn.shelf) c.args.out.now c.args.machine.now c.loop-turn.machine (take c.loop-turn.turn-index c.args.turns.now) c.loop-turn.invariant
+    (get_or c.args.turns.now c.loop-turn.turn-index no_turn) (g.S.Shelf.state c.run_turn.new.shelf) c.args.turns.now (drop (c.loop-turn.turn-index + 1) c.args.turns.now) c.in_err-run_turn.field-0.0
+    (split_at_turn c.args.turns.now c.loop-turn.turn-index (omega arith)) c.in_err-run_turn.ensures.ends)
 
 pub loop-turn-preserved : goal.loop-turn-preserved
 loop-turn-preserved g c =
     run_next_at (g.S.Shelf.state c.args.shelf.now) (g.S.Shelf.state c.loop-turn.shelf) (g.S.Shelf.state c.run_turn.new.shelf) c.args.out.now c.args.machine.now c.loop-turn.machine c.run_turn.new.machine c.args.turns.now c.loop-turn.turn-index
-        (omega arith) c.loop-turn.invariant c.in_ok-run_turn.ensures.ran c.in_ok-run_turn.ensures.logged c.in_ok-run_turn.ensures.only
+    (omega arith) c.loop-turn.invariant c.in_ok-run_turn.ensures.ran c.in_ok-run_turn.ensures.logged c.in_ok-run_turn.ensures.only
 
 pub returns-clause-logged : goal.returns-clause-logged
 returns-clause-logged g c =

@@ -14,4 +14,4 @@ pub returns-clause-ends : goal.returns-clause-ends
 returns-clause-ends g c =
     let P : Fault → Type 0 = λ f. TurnEnds (g.S.Shelf.state c.args.shelf.now) (g.S.Shelf.state c.append_to.new.shelf) c.args.out.now c.args.machine.now c.args.turn.now f in
     subst P (sym c.write_fault.ensures)
-        (turn_ends _ _ c.args.out.now c.args.machine.now c.turn.new.self c.args.turn.now _ c.in-Err-append_to.fault c.in_default.ensures.ok (c.as_bytes.ensures.value ∙ c.in-Ok.ensures) c.in-Err-append_to.ensures.err (λ e. c.in-Err-append_to.ensures.cause (ap Err e)))
+    (turn_ends _ _ c.args.out.now c.args.machine.now c.turn.new.self c.args.turn.now _ c.in-Err-append_to.fault c.in_default.ensures.ok (c.as_bytes.ensures.value ∙ c.in-Ok.ensures) c.in-Err-append_to.ensures.err (λ e. c.in-Err-append_to.ensures.cause (ap Err e)))
