@@ -32,6 +32,13 @@ fn main(rt: HostRuntime) -> ExitCode {
     let mut shelf = FileShelf::new(&rt);
     let mut link = MemoryLink::new(rt.alloc());
     let mut clock = ScriptClock::new(Vec::new(rt.alloc()));
-    let status = colo(rt.alloc(), &words, &mut shelf, &mut link, &mut clock, &mut out);
+    let status = colo(
+        rt.alloc(),
+        &words,
+        &mut shelf,
+        &mut link,
+        &mut clock,
+        &mut out,
+    );
     ExitCode::from(status)
 }

@@ -1,5 +1,5 @@
 -- The numbers of the loader's cases, as text.
-use Rattle.std.proofs.Common.{◌≡◌, ℕ, List, [], ◌∷◌, ◌++◌, decimal, refl, ap, ◌∙◌, lit<, lit≤}
+use Rattle.std.proofs.Common.{◌≡◌, [], ◌∷◌, ◌++◌, decimal, ap, ◌∙◌, lit<, lit≤}
 use Rattle.std.proofs.lemmas.Fmt.{decimal_digit, decimal_step}
 
 pub text_1 : decimal 1 ≡ 49 ∷ []

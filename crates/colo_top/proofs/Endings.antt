@@ -1,5 +1,5 @@
 -- From the three ways to end to what each clause of the top call says.
-use Rattle.std.proofs.Common.{◌≡◌, ◌≢◌, ℕ, ◌<◌, ◌≤◌, List, [], ◌∷◌, ◌++◌, Option, Some, None, option_and_then, ◌⊎◌, inl, inr, refl, sym, ap, ◌∙◌, subst, arith, codes, fold, IsTrue}
+use Rattle.std.proofs.Common.{◌≡◌, ℕ, ◌≤◌, List, [], ◌∷◌, ◌++◌, Option, Some, None, ◌⊎◌, inl, inr, refl, sym, ap, ◌∙◌, subst, arith, codes, fold}
 use Rattle.std.proofs.lemmas.List.Sums.{fold-append}
 use Rattle.colo_base.specs.Shelf.{ShelfState, ChangesOnly}
 use Rattle.colo_base.specs.Sink.{SinkState, Puts, PutsPart}
@@ -9,7 +9,6 @@ use Rattle.elf_load.specs.Boot.{elf_case}
 use Rattle.colo_top.specs.declared.schedule.Turn.{Turn}
 use Rattle.colo_top.specs.declared.fault.Fault.{Fault}
 use Rattle.colo_top.specs.declared.fault.Fault.TheVariants.{Image, Read, Write, NoMemory, NotBuilt}
-use Rattle.colo_top.specs.Schedule.{IsSchedule}
 use Rattle.colo_top.specs.Words.{Replay, Spells}
 use Rattle.colo_top.specs.Boot.{boot_state, ram_size}
 use Rattle.colo_top.specs.Machine.{State}
@@ -17,8 +16,8 @@ use Rattle.colo_top.specs.Run.{run_from, next_state}
 use Rattle.colo_top.specs.Files.{IsOutput, WriteFailed}
 use Rattle.colo_top.specs.Inputs.{Texts, AreRead, IsNotBuilt, ReadFailed}
 use Rattle.colo_top.specs.FaultLines.{status_of, line_of}
-use Rattle.colo_top.specs.Ends.{KeepsFiles, IsReady, Replays, BreaksOff, BreaksCreation, StopsShort, HasCase, IsLeftOut, EndsBy}
-use Rattle.colo_top.specs.Top.{IsStatus, Prints, IsMisspelled, IsDone, IsCase, IsUnread, IsUnwritten, IsUnfiled, IsUnsaid, IsOutOfMemory, IsUnbuilt, AreThere, FindsCase, FindsLeftOut, FindsStop, NoCountRose, Completes, IsWritten, Ended}
+use Rattle.colo_top.specs.Ends.{KeepsFiles, IsReady, Replays, BreaksOff, BreaksCreation, EndsBy}
+use Rattle.colo_top.specs.Top.{IsStatus, Prints, IsMisspelled, IsDone, IsCase, IsUnread, IsUnwritten, IsOutOfMemory, IsUnbuilt, AreThere, FindsCase, FindsLeftOut, FindsStop, NoCountRose, Completes, IsWritten, Ended}
 use Rattle.colo_top.proofs.Readiness.{no_case_at_boot}
 use Rattle.colo_top.proofs.Replaying.{run_of_log}
 use Rattle.colo_top.proofs.Same.{same_command, same_texts, same_schedule}
@@ -61,7 +60,6 @@ no_state : {o : Option State} (s : State) → o ≡ None → o ≡ Some s → �
 no_state s p q = cc
 
 module _ (words : List (List ℕ)) (old new : ShelfState) (before after : SinkState) (status : ℕ) where
-
   abbrev Ending : Type 0
   Ending = Ended words old new before after status
 
@@ -222,21 +220,21 @@ module _ (words : List (List ℕ)) (old new : ShelfState) (before after : SinkSt
   -- the bytes that are there are those that were read, so that what is ready speaks of them
   ready_there : (command other : Replay) (there read : Texts) (turns : List Turn) (boot : State) → Spells words command → Spells words other → AreThere old command there → AreRead old other read → IsReady read turns boot → IsReady there turns boot
   ready_there command other there read turns boot p q t r ready =
-    let P : Replay → Type 0 = λ c. AreRead old c read in
-    let Q : Texts → Type 0 = λ texts. IsReady texts turns boot in
-    subst Q (sym (same_texts old command there read t (subst P (same_command words other command q p) r))) ready
+      let P : Replay → Type 0 = λ c. AreRead old c read in
+      let Q : Texts → Type 0 = λ texts. IsReady texts turns boot in
+      subst Q (sym (same_texts old command there read t (subst P (same_command words other command q p) r))) ready
 
   case_there : (command other : Replay) (there read : Texts) (o : Option ℕ) → Spells words command → Spells words other → AreThere old command there → AreRead old other read → elf_case ram_size read.image ≡ o → elf_case ram_size there.image ≡ o
   case_there command other there read o p q t r e =
-    let P : Replay → Type 0 = λ c. AreRead old c read in
-    let Q : Texts → Type 0 = λ texts. elf_case ram_size texts.image ≡ o in
-    subst Q (sym (same_texts old command there read t (subst P (same_command words other command q p) r))) e
+      let P : Replay → Type 0 = λ c. AreRead old c read in
+      let Q : Texts → Type 0 = λ texts. elf_case ram_size texts.image ≡ o in
+      subst Q (sym (same_texts old command there read t (subst P (same_command words other command q p) r))) e
 
   not_built_there : (command other : Replay) (there read : Texts) → Spells words command → Spells words other → AreThere old command there → AreRead old other read → IsNotBuilt read → IsNotBuilt there
   not_built_there command other there read p q t r e =
-    let P : Replay → Type 0 = λ c. AreRead old c read in
-    let Q : Texts → Type 0 = λ texts. IsNotBuilt texts in
-    subst Q (sym (same_texts old command there read t (subst P (same_command words other command q p) r))) e
+      let P : Replay → Type 0 = λ c. AreRead old c read in
+      let Q : Texts → Type 0 = λ texts. IsNotBuilt texts in
+      subst Q (sym (same_texts old command there read t (subst P (same_command words other command q p) r))) e
 
   whole_ready : (command other : Replay) (there : Texts) (line : List ℕ) → Spells words command → Spells words other → AreThere old command there → (w : Replays other old new line) → IsReady there w.turns w.boot
   whole_ready command other there line p q t w = ready_there command other there w.texts w.turns w.boot p q t w.read w.ready
@@ -273,8 +271,8 @@ module _ (words : List (List ℕ)) (old new : ShelfState) (before after : SinkSt
   pub finds_stop : Ending → FindsStop words old status
   finds_stop (inl m) = λ command texts turns boot p t ready stop. absurd (m.misspelled command p)
   finds_stop (inr (inl w)) = λ command texts turns boot p t ready stop.
-    let r = whole_ready command w.command texts w.line p w.spelled t w.run in
-    absurd (no_state w.run.last (sym (ready_run texts turns w.run.turns boot w.run.boot ready r) ∙ stop) (sym (ap (λ ts. run_from w.run.boot ts) (run_of_log w.run.turns w.run.log w.run.logged)) ∙ w.run.ran))
+      let r = whole_ready command w.command texts w.line p w.spelled t w.run in
+      absurd (no_state w.run.last (sym (ready_run texts turns w.run.turns boot w.run.boot ready r) ∙ stop) (sym (ap (λ ts. run_from w.run.boot ts) (run_of_log w.run.turns w.run.log w.run.logged)) ∙ w.run.ran))
   finds_stop (inr (inr f)) = λ command texts turns boot p t ready stop. by command texts turns boot p t ready f.fault f.run f.status
     where
       by : (command : Replay) (texts : Texts) (turns : List Turn) (boot : State) → Spells words command → AreThere old command texts → IsReady texts turns boot → (fault : Fault) → EndsBy f.command old new fault → status ≡ status_of fault → (status ≡ 9) ⊎ ((status ≡ 6) ⊎ ((status ≡ 7) ⊎ (status ≡ 8)))
@@ -296,15 +294,15 @@ module _ (words : List (List ℕ)) (old new : ShelfState) (before after : SinkSt
       by : (command : Replay) (texts : Texts) (turns : List Turn) (boot last : State) → Spells words command → AreThere old command texts → IsReady texts turns boot → run_from boot turns ≡ Some last → NoCountRose command old new before after → (fault : Fault) → EndsBy f.command old new fault → status ≡ status_of fault → (status ≡ 0) ⊎ (status ≡ 8)
       by command texts turns boot last p t ready ran none (Image k) run s = absurd (ready_case texts turns boot k ready (case_there command f.command texts run.texts (Some k) p f.spelled t run.read run.first))
       by command texts turns boot last p t ready ran none Read run s =
-        let P : Replay → Type 0 = λ c. ReadFailed old new c in absurd (none.reads (subst P (same_command words f.command command f.spelled p) run.failed))
+          let P : Replay → Type 0 = λ c. ReadFailed old new c in absurd (none.reads (subst P (same_command words f.command command f.spelled p) run.failed))
       by command texts turns boot last p t ready ran none Write run s =
-        let P : Replay → Type 0 = λ c. WriteFailed old new c.out in absurd (none.writes (subst P (same_command words f.command command f.spelled p) run.failed))
+          let P : Replay → Type 0 = λ c. WriteFailed old new c.out in absurd (none.writes (subst P (same_command words f.command command f.spelled p) run.failed))
       by command texts turns boot last p t ready ran none NoMemory run s = inr s
       by command texts turns boot last p t ready ran none NotBuilt (inl run) s = absurd (ready_built texts turns boot ready (not_built_there command f.command texts run.texts p f.spelled t run.read run.why))
       by command texts turns boot last p t ready ran none NotBuilt (inr run) s =
-        let r = ready_there command f.command texts run.texts run.turns run.boot p f.spelled t run.read run.ready in
-        let stop = ap (λ ts. run_from run.boot ts) run.split ∙ stopped_all run.boot run.front run.back run.turn run.stopped in
-        absurd (no_state last (ready_run texts turns run.turns boot run.boot ready r ∙ stop) ran)
+          let r = ready_there command f.command texts run.texts run.turns run.boot p f.spelled t run.read run.ready in
+          let stop = ap (λ ts. run_from run.boot ts) run.split ∙ stopped_all run.boot run.front run.back run.turn run.stopped in
+          absurd (no_state last (ready_run texts turns run.turns boot run.boot ready r ∙ stop) ran)
 
   -- ---- the files that don't change
 

@@ -1,5 +1,5 @@
 -- The text of a log as it is written.
-use Rattle.std.proofs.Common.{◌≡◌, ℕ, ◌<◌, ◌^◌, ◌≤◌, List, [], ◌∷◌, ◌++◌, codes, decimal, min, length, map, sum_by, ◌-◌, refl, sym, ap, ◌∙◌, append_assoc, arith, lit<}
+use Rattle.std.proofs.Common.{◌≡◌, ◌<◌, ◌^◌, List, [], ◌∷◌, decimal, min, length, sum_by, ◌-◌, refl, append_assoc, arith, lit<}
 use Rattle.std.proofs.lemmas.List.{length-map}
 use Rattle.std.proofs.lemmas.Fmt.{decimal_digit}
 use Rattle.colo_top.specs.declared.schedule.Turn.{Turn}

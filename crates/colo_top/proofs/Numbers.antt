@@ -1,12 +1,12 @@
 -- Decimal texts, and the text before the first of a byte.
-use Rattle.std.proofs.Common.{◌≡◌, ◌≢◌, ℕ, ◌<◌, ◌≤◌, ◌+◌, ◌-◌, ◌^◌, ◌%◌, List, [], ◌∷◌, ◌++◌, All, length, get_or, take, drop, decimal, arith, refl, sym, ◌∙◌, ap, Some, None, Result, Ok, Err, ◌⊎◌, inl, inr, EachIndex, slice_index, length-append, append_assoc}
+use Rattle.std.proofs.Common.{◌≡◌, ◌≢◌, ℕ, ◌<◌, ◌≤◌, ◌+◌, ◌-◌, ◌^◌, ◌%◌, List, [], ◌∷◌, ◌++◌, All, length, get_or, take, drop, decimal, arith, sym, ◌∙◌, ap, Some, None, Result, Ok, Err, length-append}
 use Rattle.std.specs.Str.{IsUtf8}
 use Rattle.std.proofs.lemmas.Str.{IsUtf8-from_ascii}
 use Rattle.std.proofs.lemmas.Fmt.{IsAscii-decimal, decimal_by_steps}
 use Rattle.std.proofs.lemmas.List.{get_or_append_left, take_rest}
 use Rattle.std.proofs.lemmas.Grind.{common_steps}
-use Rattle.std.proofs.lemmas.List.Elements.{All-get_or, All-from_get_or}
-use Rattle.std.proofs.Math.Seq.{get_or-append_seam, take-append_seam, drop-append_seam, drop-append-add}
+use Rattle.std.proofs.lemmas.List.Elements.{All-get_or}
+use Rattle.std.proofs.Math.Seq.{get_or-append_seam, take-append_seam, drop-append-add}
 
 pub utf8_decimal : (word : List ℕ) (n : ℕ) → n < 2 ^ 32 → word ≡ decimal n → IsUtf8 word
 utf8_decimal word n small e = rw e (IsUtf8-from_ascii (decimal n) (IsAscii-decimal n (omega arith)))
@@ -30,9 +30,10 @@ first_place text before after end i apart e none inside here = grind (arith, not
 
 pub parts_at : (text before after : List ℕ) (end i : ℕ) → text ≡ before ++ (end ∷ after) → i ≡ length before →
     (take i text ≡ before) × (take (length text - (i + 1)) (drop (i + 1) text) ≡ after)
-parts_at text before after end i e p =
-    (ap (λ t. take i t) e ∙ (ap (λ k. take k (before ++ (end ∷ after))) p ∙ take-append_seam before (end ∷ after)),
-     take_rest text (i + 1) ∙ (ap (λ t. drop (i + 1) t) e ∙ (ap (λ k. drop (k + 1) (before ++ (end ∷ after))) p ∙ drop-append-add before (end ∷ after) 1)))
+parts_at text before after end i e p = (
+  ap (λ t. take i t) e ∙ (ap (λ k. take k (before ++ (end ∷ after))) p ∙ take-append_seam before (end ∷ after)),
+  take_rest text (i + 1) ∙ (ap (λ t. drop (i + 1) t) e ∙ (ap (λ k. drop (k + 1) (before ++ (end ∷ after))) p ∙ drop-append-add before (end ∷ after) 1)),
+)
 
 pub some_place : (text before after : List ℕ) (end i : ℕ) → text ≡ before ++ (end ∷ after) → ((k : ℕ) → k < i → get_or text k 0 ≡ end → ⊥) → length text ≤ i → ⊥
 some_place text before after end i e none over =

@@ -1,8 +1,8 @@
 -- Where a boot state exists, no case of the loader holds.
-use Rattle.std.proofs.Common.{◌≡◌, ℕ, List, Option, Some, None, refl, is_none, if◌then◌else◌}
+use Rattle.std.proofs.Common.{◌≡◌, ℕ, List, Option, Some, None, refl}
 use Rattle.elf_load.specs.Boot.{elf_case}
 use Rattle.colo_top.specs.Machine.{State}
-use Rattle.colo_top.specs.Boot.{boot_state, at_boot, ram_size}
+use Rattle.colo_top.specs.Boot.{boot_state, ram_size}
 
 pub no_case_at_boot : (image : List ℕ) (m : State) → boot_state image ≡ Some m → elf_case ram_size image ≡ None
 unfolding boot_state

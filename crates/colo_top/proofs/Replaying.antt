@@ -1,21 +1,20 @@
 -- From the parts of a replay to the whole.
-use Rattle.std.proofs.Common.{◌≡◌, ℕ, List, [], ◌∷◌, ◌++◌, Some, None, ◌⊎◌, inl, inr, refl, sym, ap, ◌∙◌, map, All, flat_map, IsTrue, subst}
+use Rattle.std.proofs.Common.{◌≡◌, ℕ, List, [], ◌∷◌, ◌++◌, Some, ◌⊎◌, inl, inr, refl, ap, ◌∙◌, All, flat_map, IsTrue}
 use Rattle.std.proofs.lemmas.List.Elements.{All-nil, All-cons, All-head, All-tail}
 use Rattle.colo_base.specs.Shelf.{ShelfState, ChangesOnly}
-use Rattle.colo_base.specs.Count.{Rose}
 use Rattle.colo_base.proofs.States.{changes_then, changes_wider, rose_before}
 use Rattle.colo_top.specs.declared.schedule.Turn.{Turn}
 use Rattle.colo_top.specs.declared.fault.Fault.{Fault}
 use Rattle.colo_top.specs.declared.fault.Fault.TheVariants.{Image, Read, Write, NoMemory, NotBuilt}
 use Rattle.colo_top.specs.declared.output.Output.{Output}
-use Rattle.colo_top.specs.Log.{Event, IsIdle, IsLog, Answer, made, schedule_of, single_run, made_turn}
+use Rattle.colo_top.specs.Log.{Event, IsIdle, IsLog, schedule_of, single_run, made_turn}
 use Rattle.colo_top.specs.Idle.{idle_event, idle_events}
 use Rattle.colo_top.specs.Machine.{State}
 use Rattle.colo_top.specs.Run.{run_from}
 use Rattle.colo_top.specs.Words.{Replay}
 use Rattle.colo_top.specs.Files.{OutFiles, Writing, Creating, WriteFailed, IsOutput, file_name}
 use Rattle.colo_top.specs.Inputs.{Texts, AreRead}
-use Rattle.colo_top.specs.RunSteps.{CarriesOut, CarryBreaks, CarryStops, CarryEnds, log_alone}
+use Rattle.colo_top.specs.RunSteps.{CarriesOut, CarryBreaks, CarryStops, CarryEnds}
 use Rattle.colo_top.specs.Ends.{KeepsFiles, IsReady, Replays, BreaksOff, StopsShort, BreaksCreation, EndsBy}
 
 -- ---- logs of turns that take and release nothing
@@ -74,7 +73,6 @@ failed_since old mid new out kept failed =
 -- ---- the endings
 
 module _ (command : Replay) (old mid new : ShelfState) (texts : Texts) (turns : List Turn) (boot : State) (read : AreRead old command texts) (kept : KeepsFiles old mid) (ready : IsReady texts turns boot) where
-
   pub whole_from : (line : List ℕ) → CarriesOut mid new command.out boot turns texts.disk line → Replays command old new line
   whole_from line c = record {
     texts = texts;

@@ -1,5 +1,5 @@
 -- Words spell one command, and a text is the schedule of one list of turns.
-use Rattle.std.proofs.Common.{◌≡◌, ◌≢◌, ℕ, ◌+◌, ◌<◌, ◌≤◌, ◌^◌, List, [], ◌∷◌, ◌++◌, All, Option, Some, None, length, get_or, take, drop, codes, decimal, refl, sym, ap, ◌∙◌, arith, length-append, append_assoc, nat_eq, Bool, IsTrue}
+use Rattle.std.proofs.Common.{◌≡◌, ◌≢◌, ℕ, ◌+◌, ◌<◌, ◌^◌, List, [], ◌∷◌, ◌++◌, All, Option, Some, length, get_or, take, drop, decimal, refl, sym, ap, ◌∙◌, arith, length-append, nat_eq, Bool}
 use Rattle.std.proofs.lemmas.Fmt.{decimal_injective}
 use Rattle.std.proofs.lemmas.List.{get_or_append_left}
 use Rattle.std.proofs.lemmas.List.Elements.{All-get_or, All-head, All-tail}
@@ -51,14 +51,14 @@ number_parts n m end xs ys small smaller low e =
     let apart_m = apart_decimal m end smaller low in
     let inside : length (decimal n) < length (decimal n ++ (end ∷ xs)) = omega (arith, length-append (decimal n) (end ∷ xs)) in
     let long : length (decimal n) ≡ length (decimal m) =
-        first_place (decimal n ++ (end ∷ xs)) (decimal m) ys end (length (decimal n)) apart_m e
-        (λ k h f. All-get_or (λ byte. byte ≢ end) (decimal n) k 0 h apart_n (sym (get_or_append_left (decimal n) (end ∷ xs) 0 k h) ∙ f)) inside (get_or-append_seam (decimal n) end xs 0)
+    first_place (decimal n ++ (end ∷ xs)) (decimal m) ys end (length (decimal n)) apart_m e
+    (λ k h f. All-get_or (λ byte. byte ≢ end) (decimal n) k 0 h apart_n (sym (get_or_append_left (decimal n) (end ∷ xs) 0 k h) ∙ f)) inside (get_or-append_seam (decimal n) end xs 0)
     in
     let front : decimal n ≡ decimal m =
-        sym (take-append_seam (decimal n) (end ∷ xs)) ∙ (ap (λ t. take (length (decimal n)) t) e ∙ (ap (λ k. take k (decimal m ++ (end ∷ ys))) long ∙ take-append_seam (decimal m) (end ∷ ys)))
+    sym (take-append_seam (decimal n) (end ∷ xs)) ∙ (ap (λ t. take (length (decimal n)) t) e ∙ (ap (λ k. take k (decimal m ++ (end ∷ ys))) long ∙ take-append_seam (decimal m) (end ∷ ys)))
     in
     let back : xs ≡ ys =
-        sym (drop-append-add (decimal n) (end ∷ xs) 1) ∙ (ap (λ t. drop (length (decimal n) + 1) t) e ∙ (ap (λ k. drop (k + 1) (decimal m ++ (end ∷ ys))) long ∙ drop-append-add (decimal m) (end ∷ ys) 1))
+    sym (drop-append-add (decimal n) (end ∷ xs) 1) ∙ (ap (λ t. drop (length (decimal n) + 1) t) e ∙ (ap (λ k. drop (k + 1) (decimal m ++ (end ∷ ys))) long ∙ drop-append-add (decimal m) (end ∷ ys) 1))
     in
     (decimal_injective n m small smaller front, back)
 

@@ -1,5 +1,5 @@
 -- The text of a line of a schedule, from its front.
-use Rattle.std.proofs.Common.{◌≡◌, ℕ, ◌<◌, ◌≤◌, ◌+◌, ◌-◌, ◌^◌, List, [], ◌∷◌, ◌++◌, All, length, decimal, arith, rules, refl, sym, ap, ◌∙◌, append_assoc, length-append, flat_map, Bool, true, false, nat_eq, ◌==◌, if◌then◌else◌}
+use Rattle.std.proofs.Common.{◌≡◌, ℕ, ◌<◌, ◌≤◌, List, [], ◌∷◌, ◌++◌, All, length, decimal, arith, refl, sym, ap, ◌∙◌, append_assoc, length-append, flat_map, Bool, true, false, nat_eq, ◌==◌}
 use Rattle.std.proofs.lemmas.List.{append-nil}
 use Rattle.std.proofs.lemmas.List.Concat.{flat_map-append}
 use Rattle.std.proofs.lemmas.List.Elements.{All-nil, All-head, All-tail, All-push}

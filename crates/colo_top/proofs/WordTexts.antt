@@ -1,8 +1,8 @@
 -- The words of a command line, one by one.
-use Rattle.std.proofs.Common.{◌≡◌, ℕ, ◌+◌, ◌<◌, List, [], ◌∷◌, All, codes, length, get_or, take, drop, map, refl, sym, ap, ◌∙◌, arith, string_bytes, String}
+use Rattle.std.proofs.Common.{◌≡◌, List, [], ◌∷◌, All, codes, length, get_or, drop, sym, ap, ◌∙◌, arith, string_bytes, String}
 use Rattle.std.specs.declared.alloc.Global.{Global}
 use Rattle.std.proofs.lemmas.List.Elements.{All-head, All-tail}
-use Rattle.colo_top.specs.Words.{IsName, Replay, Spells, texts}
+use Rattle.colo_top.specs.Words.{IsName, Spells, texts}
 
 abbrev NamesWord : String Global → Type 0
 NamesWord word = IsName (string_bytes word)

@@ -1,5 +1,5 @@
 -- What a step of writing leaves, whatever was written before.
-use Rattle.std.proofs.Common.{◌≡◌, ℕ, ◌+◌, ◌<◌, ◌≤◌, ◌*◌, List, [], ◌∷◌, ◌++◌, Some, unwrap_or, IsTrue, ◌⊎◌, inl, inr, refl, sym, ap, ◌∙◌, subst, arith, get_or, codes, Bool, true, false, nat_lt, zero, suc, OnOk, OnErr, Result, Ok, Err}
+use Rattle.std.proofs.Common.{◌≡◌, ℕ, ◌+◌, ◌<◌, ◌≤◌, ◌*◌, List, [], ◌∷◌, ◌++◌, Some, unwrap_or, IsTrue, ◌⊎◌, inl, inr, refl, sym, ap, ◌∙◌, subst, arith, get_or, Bool, true, false, nat_lt, zero, suc, OnOk, OnErr, Result, Ok, Err}
 use Rattle.std.specs.Io.{StartsWith}
 use Rattle.std.proofs.lemmas.List.{append_cancel_left, append-nil}
 use Rattle.std.proofs.lemmas.Bool.{false≢true}
@@ -8,7 +8,7 @@ use Rattle.colo_base.specs.Shelf.{ShelfState, ChangesOnly, held, Adds, AddsPart,
 use Rattle.colo_base.proofs.States.{changes_none, changes_then, changes_wider, rose_before}
 use Rattle.colo_top.specs.declared.output.Output.{Output}
 use Rattle.colo_top.specs.declared.output.Output.TheVariants.{Log, Released, Wire, Ram, Disk}
-use Rattle.colo_top.specs.Files.{ending, file_name, OutFiles, file, no_bytes, with_more, IsOutput, Holds, Writing, Creating, WriteFailed}
+use Rattle.colo_top.specs.Files.{ending, file_name, OutFiles, file, no_bytes, with_more, IsOutput, Writing, Creating, WriteFailed}
 use Rattle.colo_top.specs.Steps.{Appends, AppendsPart, place, Cleared, Clears, ClearsNot}
 
 -- the second and third letter of an ending tell it from the others
@@ -232,7 +232,6 @@ creating_unchanged start now out n c = record { only = c.only; each = λ told o.
 -- ---- the same by the name that a call was given
 
 module _ (old new : ShelfState) (name out : List ℕ) (output : Output) (e : name ≡ file_name out output) (change : ChangesOnly (λ other. other ≡ name) old new) where
-
   changed : ChangesOnly (λ other. other ≡ file_name out output) old new
   changed = let P : List ℕ → Type 0 = λ n. ChangesOnly (λ other. other ≡ n) old new in subst P e change
 

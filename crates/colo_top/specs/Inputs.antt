@@ -1,12 +1,10 @@
 -- The files that a replay reads, and what it asks of them.
-use Rattle.std.specs.Prelude.{◌≡◌, ◌≢◌, ℕ, ◌<◌, ◌≤◌, ◌%◌, IsTrue, List, [], Some, None, length, ◌⊎◌}
+use Rattle.std.specs.Prelude.{◌≡◌, ◌≢◌, ℕ, ◌<◌, ◌≤◌, ◌%◌, IsTrue, List, [], Some, length, ◌⊎◌}
 use Rattle.colo_base.specs.Shelf.{ShelfState}
 use Rattle.colo_base.specs.Count.{Rose}
-use Rattle.elf_load.specs.Boot.{elf_case}
 use Rattle.colo_top.specs.declared.schedule.Turn.{Turn}
 use Rattle.colo_top.specs.Schedule.{IsSchedule}
 use Rattle.colo_top.specs.Words.{Replay}
-use Rattle.colo_top.specs.Boot.{ram_size}
 
 -- the bytes of the four files
 pub record Texts : Type 0 where

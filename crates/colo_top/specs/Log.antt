@@ -1,5 +1,5 @@
 -- The log of a run: for each event its line, its answer and its marks.
-use Rattle.std.specs.Prelude.{◌≡◌, ℕ, ◌+◌, ◌-◌, ◌^◌, min, List, [], ◌∷◌, ◌++◌, codes, decimal, map, flat_map, sum_by, length, All, Option, Some, None}
+use Rattle.std.specs.Prelude.{◌≡◌, ℕ, ◌-◌, ◌^◌, min, List, [], ◌∷◌, ◌++◌, codes, decimal, map, flat_map, sum_by, length, All, Option, Some, None}
 use Rattle.colo_base.specs.declared.fault.Cause.{Cause}
 use Rattle.colo_base.specs.declared.fault.Cause.TheVariants.{Differ, Restart, Wait, Asked}
 use Rattle.colo_top.specs.declared.schedule.Turn.{Turn}

@@ -1,5 +1,5 @@
 -- A run of turns from a state on.
-use Rattle.std.specs.Prelude.{◌≡◌, ℕ, List, Option, Some, option_and_then, fold}
+use Rattle.std.specs.Prelude.{List, Option, Some, option_and_then, fold}
 use Rattle.colo_top.specs.declared.schedule.Turn.{Turn}
 use Rattle.colo_top.specs.Machine.{State, turned}
 

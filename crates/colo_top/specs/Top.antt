@@ -1,6 +1,6 @@
 -- What the top call ends with.
-use Rattle.std.specs.Prelude.{◌≡◌, ℕ, List, [], ◌∷◌, ◌++◌, codes, Some, None, IsTrue, ◌⊎◌}
-use Rattle.colo_base.specs.Shelf.{ShelfState, ChangesOnly}
+use Rattle.std.specs.Prelude.{◌≡◌, ℕ, List, codes, Some, None, IsTrue, ◌⊎◌}
+use Rattle.colo_base.specs.Shelf.{ShelfState}
 use Rattle.colo_base.specs.Sink.{SinkState, Puts, PutsPart}
 use Rattle.colo_base.specs.Count.{Rose}
 use Rattle.elf_load.specs.Boot.{elf_case}

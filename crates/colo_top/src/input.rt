@@ -37,7 +37,11 @@ fn read_file<S: Shelf>(alloc: Global, shelf: &mut S, name: &str) -> Result<Vec<u
 }
 
 /// The bytes of the four files, fetched in the order of the words up to the first that fails.
-pub fn read_all<S: Shelf>(alloc: Global, shelf: &mut S, command: &Command<'_>) -> Result<Inputs, ShelfFault>
+pub fn read_all<S: Shelf>(
+    alloc: Global,
+    shelf: &mut S,
+    command: &Command<'_>,
+) -> Result<Inputs, ShelfFault>
     ensures read { IfOk result (λ inputs. AreRead (S.state shelf.old) (replay_of command.now) (texts_of inputs)) }
     ensures files { KeepsFiles (S.state shelf.old) (S.state shelf.new) }
     ensures cause { IsErrOf result ShelfFault.Failed
@@ -47,7 +51,12 @@ pub fn read_all<S: Shelf>(alloc: Global, shelf: &mut S, command: &Command<'_>) -
     let disk = read_file(alloc, shelf, command.disk)?;
     let client = read_file(alloc, shelf, command.client)?;
     let schedule = read_file(alloc, shelf, command.schedule)?;
-    Ok(Inputs { image, disk, client, schedule })
+    Ok(Inputs {
+        image,
+        disk,
+        client,
+        schedule,
+    })
 }
 
 /// Whether the bytes are a disk: whole sectors of 512 bytes, at least one, in at most 16 MiB.

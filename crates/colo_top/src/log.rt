@@ -16,7 +16,13 @@ fn flag_of(flag: bool) -> u8
 }
 
 /// A line of a turn with the answer of one that took no frame and released none.
-fn idle_line(alloc: Global, ticks: u32, receives: u8, requests: u32, steps: u32) -> Result<String, AllocError>
+fn idle_line(
+    alloc: Global,
+    ticks: u32,
+    receives: u8,
+    requests: u32,
+    steps: u32,
+) -> Result<String, AllocError>
     ensures { IfOk result (λ text. string_bytes text ≡ idle_words ticks receives requests steps) }
 {
     format!(in alloc; "P {ticks} {receives} {requests} {steps} : - 0\n")
@@ -27,7 +33,13 @@ fn idle_line(alloc: Global, ticks: u32, receives: u8, requests: u32, steps: u32)
 pub fn idle_text(alloc: Global, turn: &Turn) -> Result<String, AllocError>
     ensures { IfOk result (λ text. string_bytes text ≡ event_text (idle_event turn.now)) }
 {
-    idle_line(alloc, turn.ticks, flag_of(turn.receives), turn.requests, turn.steps)
+    idle_line(
+        alloc,
+        turn.ticks,
+        flag_of(turn.receives),
+        turn.requests,
+        turn.steps,
+    )
 }
 
 /// The line that a run of so many events ends with, where no frame was released and no checkpoint began.

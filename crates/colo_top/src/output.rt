@@ -25,7 +25,13 @@ pub enum Output {
 
 impl Output {
     /// The written files in the order in which they are created.
-    const ALL: [Output; 5] = [Output::Log, Output::Released, Output::Wire, Output::Ram, Output::Disk];
+    const ALL: [Output; 5] = [
+        Output::Log,
+        Output::Released,
+        Output::Wire,
+        Output::Ram,
+        Output::Disk,
+    ];
 }
 
 /// What the name of a written file ends with.
@@ -51,7 +57,13 @@ fn name_of(alloc: Global, out: &str, output: Output) -> Result<String, AllocErro
 }
 
 /// Adds bytes to a written file.
-pub fn append_to<S: Shelf>(alloc: Global, shelf: &mut S, out: &str, output: Output, bytes: &[u8]) -> Result<(), ShelfFault>
+pub fn append_to<S: Shelf>(
+    alloc: Global,
+    shelf: &mut S,
+    out: &str,
+    output: Output,
+    bytes: &[u8],
+) -> Result<(), ShelfFault>
     ensures ok { OnOk result (Appends (S.state shelf.old) (S.state shelf.new) out.now output bytes.now) }
     ensures err { OnErr result (AppendsPart (S.state shelf.old) (S.state shelf.new) out.now output bytes.now) }
     ensures only { ChangesOnly (IsOutput out.now) (S.state shelf.old) (S.state shelf.new) }
@@ -62,7 +74,12 @@ pub fn append_to<S: Shelf>(alloc: Global, shelf: &mut S, out: &str, output: Outp
 }
 
 /// Makes a written file empty, where those before it are and those behind it are as they were.
-fn create_one<S: Shelf>(alloc: Global, shelf: &mut S, out: &str, output: Output) -> Result<(), ShelfFault>
+fn create_one<S: Shelf>(
+    alloc: Global,
+    shelf: &mut S,
+    out: &str,
+    output: Output,
+) -> Result<(), ShelfFault>
     ensures ok { OnOk result (Clears (S.state shelf.old) (S.state shelf.new) out.now output) }
     ensures err { OnErr result (ClearsNot (S.state shelf.old) (S.state shelf.new) out.now output) }
     ensures cause { IsErrOf result ShelfFault.Failed → WriteFailed (S.state shelf.old) (S.state shelf.new) out.now }

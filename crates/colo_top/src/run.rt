@@ -55,7 +55,13 @@ fn turn_fault(fault: TurnFault) -> Fault
 }
 
 /// Makes one turn, and adds the text of its event to the log.
-fn run_turn<S: Shelf>(alloc: Global, shelf: &mut S, out: &str, machine: &mut Machine, turn: &Turn) -> Result<(), Fault>
+fn run_turn<S: Shelf>(
+    alloc: Global,
+    shelf: &mut S,
+    out: &str,
+    machine: &mut Machine,
+    turn: &Turn,
+) -> Result<(), Fault>
     ensures ran { OnOk result (turned machine.old turn.now.ticks turn.now.steps ≡ Some machine.new) }
     ensures logged { OnOk result (Appends (S.state shelf.old) (S.state shelf.new) out.now Output.Log (event_text (idle_event turn.now))) }
     ensures only { ChangesOnly (IsOutput out.now) (S.state shelf.old) (S.state shelf.new) }
@@ -74,7 +80,13 @@ fn run_turn<S: Shelf>(alloc: Global, shelf: &mut S, out: &str, machine: &mut Mac
 }
 
 /// Makes the turns, and adds the text of each event to the log.
-fn run<S: Shelf>(alloc: Global, shelf: &mut S, out: &str, machine: &mut Machine, turns: &[Turn]) -> Result<(), Fault>
+fn run<S: Shelf>(
+    alloc: Global,
+    shelf: &mut S,
+    out: &str,
+    machine: &mut Machine,
+    turns: &[Turn],
+) -> Result<(), Fault>
     ensures ran { OnOk result (run_from machine.old turns.now ≡ Some machine.new) }
     ensures logged { OnOk result (Logs (S.state shelf.old) (S.state shelf.new) out.now turns.now) }
     ensures ends { IfErr result (RunEnds (S.state shelf.old) (S.state shelf.new) out.now machine.old turns.now) }
@@ -86,7 +98,13 @@ fn run<S: Shelf>(alloc: Global, shelf: &mut S, out: &str, machine: &mut Machine,
 }
 
 /// Writes memory and disk.
-fn write_last<S: Shelf>(alloc: Global, shelf: &mut S, out: &str, ram: &[u8], disk: &[u8]) -> Result<(), ShelfFault>
+fn write_last<S: Shelf>(
+    alloc: Global,
+    shelf: &mut S,
+    out: &str,
+    ram: &[u8],
+    disk: &[u8],
+) -> Result<(), ShelfFault>
     ensures ok { OnOk result (WritesLast (S.state shelf.old) (S.state shelf.new) out.now ram.now disk.now) }
     ensures err { OnErr result (WritesLastPart (S.state shelf.old) (S.state shelf.new) out.now ram.now disk.now) }
     ensures cause { IsErrOf result ShelfFault.Failed → WriteFailed (S.state shelf.old) (S.state shelf.new) out.now }
@@ -96,7 +114,13 @@ fn write_last<S: Shelf>(alloc: Global, shelf: &mut S, out: &str, ram: &[u8], dis
 }
 
 /// Runs what is ready, and writes the files. Gives the summary's line.
-fn carry_out<S: Shelf>(alloc: Global, shelf: &mut S, out: &str, ready: Ready, disk: &[u8]) -> Result<String, Fault>
+fn carry_out<S: Shelf>(
+    alloc: Global,
+    shelf: &mut S,
+    out: &str,
+    ready: Ready,
+    disk: &[u8],
+) -> Result<String, Fault>
     ensures whole { IfOk result (λ line. CarriesOut (S.state shelf.old) (S.state shelf.new) out.now ready.machine ready.turns.items disk.now (string_bytes line)) }
     ensures ends { IfErr result (CarryEnds (S.state shelf.old) (S.state shelf.new) out.now ready.machine ready.turns.items disk.now) }
 {
@@ -113,7 +137,11 @@ fn carry_out<S: Shelf>(alloc: Global, shelf: &mut S, out: &str, ready: Ready, di
 }
 
 /// Carries out a replay: reads its files, runs its schedule and writes its files. Gives the summary's line.
-pub fn replay<S: Shelf>(alloc: Global, shelf: &mut S, command: &Command<'_>) -> Result<String, Fault>
+pub fn replay<S: Shelf>(
+    alloc: Global,
+    shelf: &mut S,
+    command: &Command<'_>,
+) -> Result<String, Fault>
     ensures whole { IfOk result (λ line. Replays (replay_of command.now) (S.state shelf.old) (S.state shelf.new) (string_bytes line)) }
     ensures ends { IfErr result (EndsBy (replay_of command.now) (S.state shelf.old) (S.state shelf.new)) }
     ensures line { IfErr result HasLine }

@@ -42,7 +42,15 @@ fn read_line(text: &[u8]) -> Option<(Turn, &[u8])>
     let (receives, rest) = number_before(rest, b' ', 1)?;
     let (requests, rest) = number_before(rest, b' ', 256)?;
     let (steps, rest) = number_before(rest, b'\n', 100_000)?;
-    Some((Turn { ticks, receives: receives == 1, requests, steps }, rest))
+    Some((
+        Turn {
+            ticks,
+            receives: receives == 1,
+            requests,
+            steps,
+        },
+        rest,
+    ))
 }
 
 /// The turns whose schedule the text is; `None` exactly where it is that of none.

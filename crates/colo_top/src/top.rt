@@ -30,7 +30,14 @@ use std::alloc::Global;
 /// | 9 | where the disk isn't whole sectors, the client sends, the schedule isn't one of primary turns, or a step reaches a device | `not built` |
 ///
 /// The tests stand in the order 1, 6, 2, 9. Before the files are created nothing changes. A put that fails is the last.
-pub fn colo<S: Shelf, L: Link, K: Clock, O: Sink>(alloc: Global, words: &[String], shelf: &mut S, link: &mut L, clock: &mut K, out: &mut O) -> u8
+pub fn colo<S: Shelf, L: Link, K: Clock, O: Sink>(
+    alloc: Global,
+    words: &[String],
+    shelf: &mut S,
+    link: &mut L,
+    clock: &mut K,
+    out: &mut O,
+) -> u8
     ensures statuses { IsStatus result }
 
     ensures usage { (result ≡ 1) ↔ IsMisspelled (texts words.now) }

@@ -1,5 +1,5 @@
 -- No digit ends the word, so that the word before the end is the number's.
-use Rattle.std.proofs.Common.{◌≡◌, arith, sym, ◌∙◌}
+use Rattle.std.proofs.Common.{arith}
 use Rattle.colo_top.proofs.Numbers.{apart_decimal, not_some}
 use Rattle.colo_top.proofs.number.number_before.Goals as goal
 

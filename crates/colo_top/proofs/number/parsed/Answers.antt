@@ -1,5 +1,5 @@
 -- The word is text where it writes a number, and std reads it then.
-use Rattle.std.proofs.Common.{◌≡◌, arith, ◌∙◌}
+use Rattle.std.proofs.Common.{arith, ◌∙◌}
 use Rattle.std.proofs.lemmas.Fmt.{parse-decimal}
 use Rattle.colo_top.proofs.Numbers.{utf8_decimal, same_number, no_number}
 use Rattle.colo_top.proofs.number.parsed.Goals as goal

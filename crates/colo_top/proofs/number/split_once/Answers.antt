@@ -1,5 +1,4 @@
 -- The first `end` stands where the word before it stops.
-use Rattle.std.proofs.Common.{arith}
 use Rattle.colo_top.proofs.Numbers.{first_place, parts_at, some_place}
 use Rattle.colo_top.proofs.number.split_once.Goals as goal
 

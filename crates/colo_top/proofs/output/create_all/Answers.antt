@@ -1,7 +1,7 @@
 -- The files are created one after the other.
 use Rattle.std.proofs.Common.{arith}
 use Rattle.std.proofs.lemmas.Result.{err_from_is_err_and}
-use Rattle.colo_top.proofs.Writes.{cleared_none, cleared_all, clears_at, clears_not_at, place_at, write_failed_from, all_cleared}
+use Rattle.colo_top.proofs.Writes.{cleared_none, clears_at, clears_not_at, place_at, write_failed_from, all_cleared}
 use Rattle.colo_top.proofs.output.create_all.Goals as goal
 
 pub loop-output-init : goal.loop-output-init

@@ -1,5 +1,5 @@
 -- Each number of the line is read as it was written, and so is what follows it.
-use Rattle.std.proofs.Common.{◌≡◌, ◌≤◌, ◌∷◌, length, get_or, arith, sym, ap, ◌∙◌}
+use Rattle.std.proofs.Common.{arith, ◌∙◌}
 use Rattle.colo_top.specs.Schedule.{flag}
 use Rattle.colo_top.proofs.ScheduleText.{from_ticks, from_receives, from_requests, from_steps, line_text_from_front, flag_small, same_turn, written_line}
 use Rattle.colo_top.proofs.schedule.read_line.Goals as goal

@@ -1,7 +1,5 @@
 -- The turns read so far and what is left spell the text, and each schedule that the text is has one of what is left.
-use Rattle.std.proofs.Common.{◌≡◌, ◌++◌, List, All, length}
-use Rattle.colo_top.specs.declared.schedule.Turn.{Turn}
-use Rattle.colo_top.specs.Schedule.{IsGood, IsSchedule, schedule_text}
+use Rattle.std.proofs.Common.{length}
 use Rattle.colo_top.proofs.schedule.read_schedule.Given as goal
 use Rattle.colo_top.proofs.ScheduleText.{IsReadTo}
 
