@@ -1,0 +1,4 @@
+pub mod Streams
+pub mod Keeping
+pub mod Reading
+pub mod Histories

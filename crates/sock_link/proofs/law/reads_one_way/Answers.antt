@@ -1,0 +1,5 @@
+use Rattle.sock_link.proofs.Histories.{is_read_once}
+use Rattle.sock_link.proofs.law.reads_one_way.Goals as goal
+
+pub returns : goal.returns
+returns c = is_read_once
