@@ -4,13 +4,11 @@ ghost use Rattle.inet_build.specs.Segment as spec;
 ghost use Rattle.inet_frame.specs.Sum.{ones_sum};
 
 use crate::fields::Segment;
-use inet_frame::{GUEST_MAC, ones_sum, pseudo_sum};
+use inet_frame::{GUEST_MAC, ones_sum, protocol, pseudo_sum};
 use std::alloc::{AllocError, Global};
 
 /// The type of IPv4 in an Ethernet frame (IEEE 802.3, 3.1.1).
 const IPV4_TYPE: [u8; 2] = [0x08, 0x00];
-/// TCP's number among IPv4's protocols (RFC 791, 3.1).
-const TCP: u8 = 6;
 
 /// The bytes of a TCP segment from the guest, in IPv4 in Ethernet without padding (IEEE 802.3,
 /// 3.1.1; RFC 791, 3.1; RFC 9293, 3.1), with at most 536 bytes of payload. The only error is want
@@ -60,8 +58,26 @@ fn ipv4_header(client: u32, total: u16, sum: u16) -> [u8; 20]
     let [sum_high, sum_low] = sum.to_be_bytes();
     let [first, second, third, fourth] = client.to_be_bytes();
     [
-        0x45, 0, total_high, total_low, 0, 0, 0x40, 0, 64, TCP, sum_high, sum_low, 10, 0, 2, 15,
-        first, second, third, fourth,
+        0x45,
+        0,
+        total_high,
+        total_low,
+        0,
+        0,
+        0x40,
+        0,
+        64,
+        protocol::TCP,
+        sum_high,
+        sum_low,
+        10,
+        0,
+        2,
+        15,
+        first,
+        second,
+        third,
+        fourth,
     ]
 }
 
@@ -111,7 +127,11 @@ fn tcp_checksum(fields: &Segment, payload: &[u8]) -> u16
     requires { length payload.now ≤ 536 }
     ensures { result ≡ spec.tcp_checksum fields.now payload.now }
 {
-    let pseudo = pseudo_sum(&addresses(fields.tuple.addr), TCP, tcp_len(fields, payload));
+    let pseudo = pseudo_sum(
+        &addresses(fields.tuple.addr),
+        protocol::TCP,
+        tcp_len(fields, payload),
+    );
     let header = ones_sum(pseudo, &tcp_header(fields, 0));
     let option = option_sum(header, fields.mss);
     0xFFFF - ones_sum(option, payload)

@@ -5,11 +5,8 @@ ghost use Rattle.inet_frame.specs.Frame.{IsSegment};
 ghost use Rattle.inet_build.specs.Edit as spec;
 
 use crate::options::clean_options;
-use inet_frame::place::{data_offset, four, header_len, total_len};
-use inet_frame::{flag, ones_sum, pseudo_sum};
-
-/// TCP's number among IPv4's protocols (RFC 791, 3.1).
-const TCP: u8 = 6;
+use inet_frame::place::{self, data_offset, four};
+use inet_frame::{flag, ones_sum, protocol, pseudo_sum};
 
 /// Overwrites, in a segment with SYN, the options window scale, selective acknowledgements
 /// permitted and timestamps by "no operation", and makes the checksum anew where there was one.
@@ -18,6 +15,7 @@ pub fn clean_syn(frame: &mut [u8])
     requires { IsSome (tcp_in frame.old) }
     ensures bytes { frame.new ≡ spec.cleaned frame.old }
     ensures parsed { tcp_in frame.new ≡ option_map spec.cleaned_fields (tcp_in frame.old) }
+    ensures still_tcp { IsSome (tcp_in frame.new) }
     ensures once { spec.cleaned frame.new ≡ frame.new }
 {
     clean(frame);
@@ -29,6 +27,7 @@ pub fn shift_ack(frame: &mut [u8], by: u32)
     requires { IsSome (tcp_in frame.old) }
     ensures bytes { frame.new ≡ spec.shifted frame.old by }
     ensures parsed { tcp_in frame.new ≡ option_map (spec.shifted_fields by) (tcp_in frame.old) }
+    ensures still_tcp { IsSome (tcp_in frame.new) }
     ensures sums { (more : ℕ) → spec.shifted frame.new more ≡ spec.shifted frame.old (by + more) }
 {
     shift(frame, by);
@@ -39,8 +38,8 @@ fn clean(frame: &mut [u8])
     requires { IsSegment frame.old }
     ensures { frame.new ≡ spec.cleaned frame.old }
 {
-    let header_end = 14 + header_len(frame);
-    let data_end = 14 + total_len(frame);
+    let header_end = place::header_end(frame);
+    let data_end = place::datagram_end(frame);
     if frame[header_end + 13] & flag::SYN == 0 {
         return;
     }
@@ -55,8 +54,8 @@ fn shift(frame: &mut [u8], by: u32)
     requires { IsSegment frame.old }
     ensures { frame.new ≡ spec.shifted frame.old by }
 {
-    let header_end = 14 + header_len(frame);
-    let end = 14 + total_len(frame);
+    let header_end = place::header_end(frame);
+    let end = place::datagram_end(frame);
     let at = header_end + 8;
     let ack = four(frame, at).wrapping_add(by);
     put(frame, at, &ack.to_be_bytes());
@@ -75,7 +74,7 @@ fn sum_anew(frame: &mut [u8], header_end: usize, data_end: usize)
     let at = header_end + 16;
     put(frame, at, &[0, 0]);
     let len = (data_end - header_end) as u16;
-    let pseudo = pseudo_sum(&frame[26..34], TCP, len);
+    let pseudo = pseudo_sum(&frame[26..34], protocol::TCP, len);
     let sum = 0xFFFF - ones_sum(pseudo, &frame[header_end..data_end]);
     put(frame, at, &sum.to_be_bytes());
 }

@@ -1,10 +1,8 @@
 ghost use Rattle.std.specs.Prelude.{◌≡◌, ◌<◌, [], ◌∷◌, length};
 ghost use Rattle.inet_build.specs.Options as spec;
 
-use inet_frame::option_len;
+use inet_frame::{NO_OPERATION, option_len};
 
-/// "No operation", the option of one byte (RFC 9293, 3.2).
-const NO_OPERATION: u8 = 1;
 /// Window scale (RFC 7323, 2.2).
 const WINDOW_SCALE: u8 = 3;
 /// Selective acknowledgements permitted (RFC 2018, 2).

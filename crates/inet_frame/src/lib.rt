@@ -19,6 +19,7 @@ pub mod flag;
 mod options;
 mod parser;
 pub mod place;
+pub mod protocol;
 mod sum;
 mod tcp;
 mod tuple;
@@ -26,7 +27,7 @@ mod udp;
 mod why;
 
 pub use arp::{ArpView, arp_reply};
-pub use options::option_len;
+pub use options::{NO_OPERATION, option_len};
 pub use parser::{Seen, is_tcp, parse};
 pub use sum::{ones_sum, pseudo_sum};
 pub use tcp::TcpView;

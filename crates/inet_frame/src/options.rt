@@ -4,7 +4,7 @@ ghost use Rattle.inet_frame.specs.Options as spec;
 /// The kind of the option that ends the options (RFC 9293, 3.2).
 const END_OF_OPTIONS: u8 = 0;
 /// The kind of the option that is one byte (RFC 9293, 3.2).
-const NO_OPERATION: u8 = 1;
+pub const NO_OPERATION: u8 = 1;
 
 /// How many bytes the first of some TCP options takes (RFC 9293, 3.2). It is 0 where a walk over
 /// the options ends: at the last byte, at kind 0, and at an option whose length is missing, below 2

@@ -3,7 +3,8 @@ ghost use Rattle.inet_frame.specs.Counted.{tcp_in};
 ghost use Rattle.inet_frame.specs.Frame.{seen_of, IsOfType, IsDatagram, transport_sum, is_other_arp};
 
 use crate::arp::ArpView;
-use crate::place::{data_offset, header_len, total_len, two};
+use crate::place::{ETHERNET_HEADER, data_offset, header_len, total_len, two};
+use crate::protocol;
 use crate::sum::{ones_sum, pseudo_sum};
 use crate::tcp::TcpView;
 use crate::udp::UdpView;
@@ -26,9 +27,18 @@ const TYPE_IPV4: u16 = 0x0800;
 
 const TYPE_ARP: u16 = 0x0806;
 
-const PROTOCOL_TCP: u8 = 6;
-
-const PROTOCOL_UDP: u8 = 17;
+/// The longest frame: an Ethernet header and 1,500 bytes (IEEE 802.3, 3.2.7).
+const LONGEST: usize = 1514;
+/// An ARP packet for IPv4 behind its Ethernet header (RFC 826).
+const ARP_FRAME: usize = 42;
+/// An IPv4 header without options (RFC 791, 3.1).
+const IPV4_HEADER: usize = 20;
+/// A TCP header without options (RFC 9293, 3.1).
+const TCP_HEADER: usize = 20;
+/// A UDP header (RFC 768).
+const UDP_HEADER: usize = 8;
+/// The one's complement sum of words with a right checksum among them (RFC 1071, 1).
+const RIGHT_SUM: u16 = 0xFFFF;
 
 /// Says what a frame is: its views are slices of the frame, at the places that IEEE 802.3,
 /// RFC 791, RFC 826, RFC 9293 and RFC 768 give, and a dropped frame has the first number of
@@ -37,10 +47,10 @@ const PROTOCOL_UDP: u8 = 17;
 pub fn parse<'a>(frame: &'a [u8]) -> Seen<'a>
     ensures { result ≡ seen_of frame.now }
 {
-    if frame.len() < 14 {
+    if frame.len() < ETHERNET_HEADER {
         return Seen::Other(Why::SHORT);
     }
-    if frame.len() > 1514 {
+    if frame.len() > LONGEST {
         return Seen::Other(Why::LONG);
     }
     match two(frame, 12) {
@@ -65,7 +75,7 @@ fn arp<'a>(frame: &'a [u8]) -> Seen<'a>
     requires { IsOfType frame.now 0x0806 }
     ensures { result ≡ seen_of frame.now }
 {
-    if frame.len() < 42 || is_other_arp(frame) {
+    if frame.len() < ARP_FRAME || is_other_arp(frame) {
         return Seen::Other(Why::BAD_ARP);
     }
     Seen::Arp(ArpView::new(frame))
@@ -88,23 +98,25 @@ fn ipv4<'a>(frame: &'a [u8]) -> Seen<'a>
     requires { IsOfType frame.now 0x0800 }
     ensures { result ≡ seen_of frame.now }
 {
-    if frame.len() < 34 || frame[14] / 16 != 4 {
+    if frame.len() < ETHERNET_HEADER + IPV4_HEADER || frame[14] / 16 != 4 {
         return Seen::Other(Why::BAD_IPV4);
     }
     let header = header_len(frame);
     let total = total_len(frame);
-    if header < 20 || total < header || frame.len() < 14 + total {
+    if header < IPV4_HEADER || total < header || frame.len() < ETHERNET_HEADER + total {
         return Seen::Other(Why::BAD_IPV4);
     }
-    if ones_sum(0, &frame[14..14 + header]) != 0xFFFF {
+    let header_end = ETHERNET_HEADER + header;
+    let data_end = ETHERNET_HEADER + total;
+    if ones_sum(0, &frame[ETHERNET_HEADER..header_end]) != RIGHT_SUM {
         return Seen::Other(Why::BAD_HEADER_SUM);
     }
     if two(frame, 20) % 0x4000 != 0 {
         return Seen::Other(Why::FRAGMENT);
     }
     match frame[23] {
-        PROTOCOL_TCP => tcp(frame, 14 + header, 14 + total),
-        PROTOCOL_UDP => udp(frame, 14 + header, 14 + total),
+        protocol::TCP => tcp(frame, header_end, data_end),
+        protocol::UDP => udp(frame, header_end, data_end),
         _ => Seen::Other(Why::OTHER_PROTOCOL),
     }
 }
@@ -114,14 +126,14 @@ fn tcp<'a>(frame: &'a [u8], header_end: usize, data_end: usize) -> Seen<'a>
     requires { IsDatagram frame.now header_end data_end 6 }
     ensures { result ≡ seen_of frame.now }
 {
-    if data_end < header_end + 20 {
+    if data_end < header_end + TCP_HEADER {
         return Seen::Other(Why::BAD_TCP);
     }
     let offset = data_offset(frame, header_end);
-    if offset < 20 || data_end < header_end + offset {
+    if offset < TCP_HEADER || data_end < header_end + offset {
         return Seen::Other(Why::BAD_TCP);
     }
-    if transport_sum(frame, PROTOCOL_TCP, header_end, data_end) != 0xFFFF {
+    if transport_sum(frame, protocol::TCP, header_end, data_end) != RIGHT_SUM {
         return Seen::Other(Why::BAD_TCP_SUM);
     }
     Seen::Tcp(TcpView::new(frame, header_end, data_end))
@@ -133,11 +145,11 @@ fn udp<'a>(frame: &'a [u8], header_end: usize, data_end: usize) -> Seen<'a>
     ensures { result ≡ seen_of frame.now }
 {
     let len = data_end - header_end;
-    if len < 8 || usize::from(two(frame, header_end + 4)) != len {
+    if len < UDP_HEADER || usize::from(two(frame, header_end + 4)) != len {
         return Seen::Other(Why::BAD_UDP);
     }
     if two(frame, header_end + 6) != 0
-        && transport_sum(frame, PROTOCOL_UDP, header_end, data_end) != 0xFFFF
+        && transport_sum(frame, protocol::UDP, header_end, data_end) != RIGHT_SUM
     {
         return Seen::Other(Why::BAD_UDP_SUM);
     }

@@ -3,6 +3,9 @@
 ghost use Rattle.std.specs.Prelude.{◌≡◌, ◌+◌, ◌<◌, ◌≤◌, length};
 ghost use Rattle.inet_frame.specs.Place as spec;
 
+/// The length of an Ethernet header: two MAC addresses and the type (IEEE 802.3, 3.1.1).
+pub const ETHERNET_HEADER: usize = 14;
+
 /// The 16-bit number at a place, in network order.
 pub fn two(bytes: &[u8], at: usize) -> u16
     requires { at + 1 < length bytes.now }
@@ -35,6 +38,24 @@ pub fn total_len(frame: &[u8]) -> usize
     ensures at_most { result < 65536 }
 {
     usize::from(two(frame, 16))
+}
+
+/// Where the IPv4 header ends in the frame.
+pub fn header_end(frame: &[u8]) -> usize
+    requires { 14 < length frame.now }
+    ensures value { result ≡ spec.header_end frame.now }
+    ensures at_most { result ≤ 74 }
+{
+    ETHERNET_HEADER + header_len(frame)
+}
+
+/// Where the IPv4 datagram ends in the frame; what follows is padding.
+pub fn datagram_end(frame: &[u8]) -> usize
+    requires { 17 < length frame.now }
+    ensures value { result ≡ spec.datagram_end frame.now }
+    ensures at_most { result < 65550 }
+{
+    ETHERNET_HEADER + total_len(frame)
 }
 
 /// The length of a TCP header that begins at `header_end`, in bytes (RFC 9293, 3.1).

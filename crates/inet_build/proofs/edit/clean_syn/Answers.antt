@@ -1,5 +1,5 @@
 -- The laws of cleaned options, at the frame that was given.
-use Rattle.std.proofs.Common.{ℕ, List, ap, sym, subst, ◌∙◌, arith, Option}
+use Rattle.std.proofs.Common.{ℕ, List, ap, sym, subst, ◌∙◌, arith, Option, is_some}
 use Rattle.std.specs.Option.{option_map}
 use Rattle.inet_frame.specs.Counted.{tcp_in}
 use Rattle.inet_frame.specs.Fields.{TcpFields}
@@ -25,3 +25,11 @@ pub returns-clause-once : goal.returns-clause-once
 returns-clause-once c =
     let s = some_segment c.args.frame.now c.requires in
     ap cleaned c.clean.ensures ∙ (cleaned_twice c.args.frame.now s ∙ sym c.clean.ensures)
+
+pub returns-clause-still_tcp : goal.returns-clause-still_tcp
+returns-clause-still_tcp c =
+    let b = c.args.frame.now in
+    let s = some_segment c.args.frame.now c.requires in
+    let P : List ℕ → Type 0 = λ xs. Bytes xs in
+    let bytes : Bytes (cleaned c.args.frame.now) = subst P c.clean.ensures (λ k. omega (arith, c.type_inv.frame k)) in
+    ap (λ (xs : List ℕ). is_some (tcp_in xs)) c.clean.ensures ∙ ap (λ (t : Option TcpFields). is_some t) (cleaned_parses b s bytes)

@@ -1,5 +1,5 @@
 -- The laws of a shifted acknowledgement, at the frame that was given.
-use Rattle.std.proofs.Common.{ℕ, List, ap, sym, subst, ◌∙◌, arith, Option}
+use Rattle.std.proofs.Common.{ℕ, List, ap, sym, subst, ◌∙◌, arith, Option, is_some}
 use Rattle.std.specs.Option.{option_map}
 use Rattle.inet_frame.specs.Counted.{tcp_in}
 use Rattle.inet_frame.specs.Fields.{TcpFields}
@@ -26,3 +26,12 @@ pub returns-clause-sums : goal.returns-clause-sums
 returns-clause-sums c = λ more.
     let s = some_segment c.args.frame.now c.requires in
     ap (λ (b : List ℕ). shifted b more) c.shift.ensures ∙ shifted_twice c.args.frame.now c.args.by more s
+
+pub returns-clause-still_tcp : goal.returns-clause-still_tcp
+returns-clause-still_tcp c =
+    let b = c.args.frame.now in
+    let by = c.args.by in
+    let s = some_segment c.args.frame.now c.requires in
+    let P : List ℕ → Type 0 = λ xs. Bytes xs in
+    let bytes : Bytes (shifted c.args.frame.now c.args.by) = subst P c.shift.ensures (λ k. omega (arith, c.type_inv.frame k)) in
+    ap (λ (xs : List ℕ). is_some (tcp_in xs)) c.shift.ensures ∙ ap (λ (t : Option TcpFields). is_some t) (shifted_parses b by s bytes)
