@@ -1,4 +1,4 @@
-//! The machine of one hart over its memory.
+//! The machine: one hart with its CSRs and timer over its memory, its steps and its turns.
 
 ghost use Rattle.std.specs.Prelude.{◌≡◌, ◌<◌, ℕ, Some, None, OnOk, IfOk, IfErr, IsErrOf};
 ghost use Rattle.rv_isa.specs.Table.{IsSpelled, decoded};
@@ -170,13 +170,14 @@ impl Machine {
         self.perform(&instr)
     }
 
-    /// Executes an instruction over the bus, and enters its trap.
+    /// Executes an instruction over the bus, whose interruptor has the line and the timer of the CSRs, and enters
+    /// its trap.
     #[tactic(auto, unfolding(crate::specs::Machine::performed))]
     #[inline(always)]
     fn perform(&mut self, instr: &Instr) -> Result<(), TurnFault>
         requires { IsSpelled instr.now }
         ensures ok { (word : ℕ) → IsWordOf word instr.now → OnOk result (self.new ≡ performed self.old word instr.now) }
-        ensures memory { IsErrOf result TurnFault.NotBuilt → ⊥ }
+        ensures built { IsErrOf result TurnFault.NotBuilt → ⊥ }
     {
         self.board.clint = Clint {
             msip: self.csrs.msip(),
