@@ -18,7 +18,7 @@ use Rattle.colo_top.specs.Inputs.{Texts, AreRead, IsNotBuilt, ReadFailed}
 use Rattle.colo_top.specs.FaultLines.{status_of, line_of}
 use Rattle.colo_top.specs.Ends.{KeepsFiles, IsReady, Replays, BreaksOff, BreaksCreation, EndsBy}
 use Rattle.colo_top.specs.Top.{IsStatus, Prints, IsMisspelled, IsDone, IsCase, IsUnread, IsUnwritten, IsOutOfMemory, IsUnbuilt, AreThere, FindsCase, FindsLeftOut, FindsStop, NoCountRose, Completes, IsWritten, Ended}
-use Rattle.colo_top.proofs.Readiness.{no_case_at_boot}
+use Rattle.colo_top.proofs.Starts.{no_case_at_boot}
 use Rattle.colo_top.proofs.Replaying.{run_of_log}
 use Rattle.colo_top.proofs.Same.{same_command, same_texts, same_schedule}
 

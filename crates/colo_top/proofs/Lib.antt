@@ -7,7 +7,6 @@ pub mod LogText
 pub mod WordTexts
 pub mod Writes
 pub mod CaseTexts
-pub mod Readiness
 pub mod Replaying
 pub mod Same
 pub mod Endings

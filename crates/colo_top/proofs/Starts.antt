@@ -1,12 +1,13 @@
--- Where a machine starts, and where it doesn't.
-use Rattle.std.proofs.Common.{◌≡◌, ℕ, List, Some, None, refl}
+-- Where a boot state exists, no case of the loader holds.
+use Rattle.std.proofs.Common.{◌≡◌, ℕ, List, Option, Some, None, refl}
 use Rattle.elf_load.specs.Boot.{elf_case}
-use Rattle.colo_top.specs.Boot.{boot_state, ram_size, at_boot}
+use Rattle.colo_top.specs.Machine.{State}
+use Rattle.colo_top.specs.Boot.{boot_state, ram_size}
 
-pub boot_state_some : (image : List ℕ) → elf_case ram_size image ≡ None → boot_state image ≡ Some (at_boot image)
+pub no_case_at_boot : (image : List ℕ) (m : State) → boot_state image ≡ Some m → elf_case ram_size image ≡ None
 unfolding boot_state
-boot_state_some image h = rw h refl
-
-pub boot_state_none : (image : List ℕ) (number : ℕ) → elf_case ram_size image ≡ Some number → boot_state image ≡ None
-unfolding boot_state
-boot_state_none image number h = rw h refl
+no_case_at_boot image m e = go (elf_case ram_size image) refl
+  where
+    go : (o : Option ℕ) → elf_case ram_size image ≡ o → elf_case ram_size image ≡ None
+    go None p = p
+    go (Some n) p = let f : None ≡ Some m = rw p at e in cc

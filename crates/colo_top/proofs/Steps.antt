@@ -1,8 +1,7 @@
 -- Steps, one after the other.
 use Rattle.std.proofs.Common.{◌≡◌, ℕ, zero, suc, ◌+◌, ◌-◌, ◌<◌, Some, None, refl, ap, ◌∙◌, add-one, add-zero, arith}
 use Rattle.std.specs.Prelude.{option_and_then}
-use Rattle.rv_traps.specs.Trap.{ticked}
-use Rattle.colo_top.specs.Machine.{State, stepped, after_steps, turned}
+use Rattle.colo_top.specs.Machine.{State, stepped, after_steps}
 
 pub after_no_steps : (s : State) → after_steps 0 s ≡ Some s
 unfolding after_steps
@@ -29,7 +28,3 @@ pub none_from : (n k : ℕ) (s t : State) → after_steps k s ≡ Some t → ste
 none_from n k s t h e lt =
     let split : n ≡ (k + 1) + (n - (k + 1)) = omega arith in
     ap (λ m. after_steps m s) split ∙ none_after (n - (k + 1)) (k + 1) s (none_at k s t h e)
-
-pub turned_no_steps : (s : State) (ticks : ℕ) → turned s ticks 0 ≡ Some (record s { csrs = ticked s.csrs ticks })
-unfolding turned
-turned_no_steps s ticks = after_no_steps (record s { csrs = ticked s.csrs ticks })

@@ -24,7 +24,7 @@ pub struct Ready {
 }
 
 /// The machine that the image boots.
-#[tactic(auto, using(crate::proofs::Readiness::no_case_at_boot))]
+#[tactic(auto, using(crate::proofs::Starts::no_case_at_boot))]
 fn boot(alloc: Global, image: &[u8]) -> Result<Machine, Fault>
     ensures booted { IfOk result (λ machine. boot_state image.now ≡ Some machine) }
     ensures no_case { OnOk result (elf_case ram_size image.now ≡ None) }
