@@ -1,12 +1,12 @@
 -- Reading whole records off the front of bytes.
-use Rattle.std.proofs.Common.{◌≡◌, ℕ, zero, suc, ◌+◌, ◌^◌, ◌<◌, ◌≤◌, List, [], ◌∷◌, ◌++◌, length, take, drop, get_or, refl, sym, ◌∙◌, ap, subst, arith, length-append, append_assoc}
+use Rattle.std.proofs.Common.{◌≡◌, ℕ, zero, suc, ◌+◌, ◌<◌, ◌≤◌, List, [], ◌∷◌, ◌++◌, length, take, drop, get_or, sym, ◌∙◌, ap, subst, arith, length-append, append_assoc}
 use Rattle.std.specs.Prelude.{All}
-use Rattle.std.specs.Int.{from_be_bytes, to_be_bytes, w32}
+use Rattle.std.specs.Int.{to_be_bytes, w32}
 use Rattle.std.proofs.lemmas.Nat.{be_bytes_4}
 use Rattle.std.proofs.lemmas.List.{take-append-drop, append-nil, get_or-drop, drop-drop, length-take-le}
 use Rattle.std.proofs.lemmas.List.Elements.{All-push, All-same}
 use Rattle.std.proofs.lemmas.Grind.{common_steps}
-use Rattle.sock_link.specs.Stream.{limit, record_of, stream_of, length_of, IsSplit}
+use Rattle.sock_link.specs.Stream.{limit, record_of, stream_of, length_of}
 use Rattle.sock_link.specs.Cut.{frames_in}
 use Rattle.sock_link.proofs.Streams.{length-record_of, stream_of-append, frames_in-stream_of, length-frames_in}
 

@@ -1,11 +1,11 @@
 -- Streams of frames, and what can be read of them.
-use Rattle.std.proofs.Common.{◌≡◌, ℕ, ◌+◌, ◌-◌, ◌^◌, ◌*◌, ◌<◌, ◌≤◌, List, [], ◌∷◌, ◌++◌, length, take, drop, refl, sym, ◌∙◌, ap, subst, arith, zero, suc, zero-add, length-append, append_assoc}
+use Rattle.std.proofs.Common.{◌≡◌, ℕ, ◌+◌, ◌^◌, ◌<◌, ◌≤◌, List, [], ◌∷◌, ◌++◌, length, take, drop, refl, sym, ◌∙◌, ap, arith, zero, suc, zero-add, length-append, append_assoc}
 use Rattle.std.proofs.lemmas.List.Elements.{All-head, All-tail}
 use Rattle.std.specs.Prelude.{All}
-use Rattle.std.specs.Int.{from_be_bytes, to_be_bytes, w32}
+use Rattle.std.specs.Int.{to_be_bytes, w32}
 use Rattle.std.proofs.lemmas.Nat.{from_be_bytes-to_be_bytes_4}
 use Rattle.std.proofs.lemmas.Grind.{common_steps}
-use Rattle.sock_link.specs.Stream.{limit, record_of, stream_of, length_of, is_too_long, IsUnfinished, IsSplit}
+use Rattle.sock_link.specs.Stream.{limit, record_of, stream_of, length_of, IsUnfinished, IsSplit}
 use Rattle.sock_link.specs.Cut.{frames_in}
 
 -- a record is four bytes longer than its frame

@@ -1,6 +1,6 @@
 -- QEMU's stream socket form (`-netdev stream`, `-netdev socket`): before each frame stands its length in four bytes,
 -- big-endian.
-use Rattle.std.specs.Prelude.{◌≡◌, ℕ, ◌+◌, ◌<◌, ◌≤◌, Bool, List, [], ◌∷◌, ◌++◌, length, take, All, nat_le, nat_lt, ◌&&◌, if◌then◌else◌}
+use Rattle.std.specs.Prelude.{◌≡◌, ℕ, ◌+◌, ◌<◌, ◌≤◌, Bool, List, [], ◌∷◌, ◌++◌, length, take, All, nat_le, nat_lt, ◌&&◌}
 use Rattle.std.specs.Int.{from_be_bytes, to_be_bytes, w32}
 
 -- the greatest length of a frame that is taken

@@ -12,3 +12,6 @@ pub use fault::LinkFault;
 pub use frame::frame_into;
 pub use law::{keeps_the_stream, reads_back, reads_one_way};
 pub use unframer::Unframer;
+
+#[cfg(test)]
+mod tests;

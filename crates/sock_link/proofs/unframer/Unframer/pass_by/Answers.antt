@@ -1,4 +1,4 @@
-use Rattle.std.proofs.Common.{◌≡◌, true, drop, ap, ◌∙◌}
+use Rattle.std.proofs.Common.{ap, ◌∙◌}
 use Rattle.sock_link.specs.Stream.{is_too_long}
 use Rattle.sock_link.proofs.Keeping.{seen, passes_by}
 use Rattle.sock_link.proofs.unframer.Unframer.pass_by.Goals as goal
