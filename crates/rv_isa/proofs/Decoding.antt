@@ -1,0 +1,373 @@
+-- What a word says, a row at a time, and what no row is for.
+use Rattle.std.proofs.Common.{◌≡◌, ◌≢◌, ℕ, ◌<◌, ◌^◌, bit_and, Some, None, ap, length, get_or, eq-eqb, lit<, refl, ◌∷◌, [], sym, ◌∙◌, arith}
+use Rattle.std.proofs.lemmas.Nat.{and_mask}
+use Rattle.rv_isa.specs.declared.instr.Instr.TheVariants.{Lui, Auipc, Jal, Jalr, Beq, Bne, Blt, Bge, Bltu, Bgeu, Lb, Lh, Lw, Lbu, Lhu, Sb, Sh, Sw, Addi, Slti, Sltiu, Xori, Ori, Andi, Slli, Srli, Srai, Add, Sll, Slt, Sltu, Xor, Srl, Or, And, Sub, Sra, Mul, Mulh, Mulhsu, Mulhu, Div, Divu, Rem, Remu, Fence, FenceI, Csrrw, Csrrs, Csrrc, Csrrwi, Csrrsi, Csrrci, Ecall, Ebreak, Mret, Wfi, Lr, Sc, AmoSwap, AmoAdd, AmoXor, AmoAnd, AmoOr, AmoMin, AmoMax, AmoMinu, AmoMaxu}
+use Rattle.rv_isa.specs.Fields.{rd, rs1, rs2, shamt, imm_i, imm_s, imm_b, imm_u, imm_j, csr, aq, rl, rest}
+use Rattle.rv_isa.specs.Table.{table, whole, decoded}
+use Rattle.rv_isa.proofs.Rows.{read_at, no_row}
+
+-- the row at a place is read where it fits
+at : (k w : ℕ) → k < length table → bit_and w (get_or table k (whole 0 Ecall)).mask ≡ (get_or table k (whole 0 Ecall)).value → decoded w ≡ Some ((get_or table k (whole 0 Ecall)).read w)
+at k w l e = read_at w k (whole 0 Ecall) l (eq-eqb _ _ e)
+
+pub lui_at : (w : ℕ) → bit_and w 0x7F ≡ 0x37 → decoded w ≡ Some (Lui (rd w) (imm_u w))
+unfolding table
+lui_at w e = at 0 w (lit< tt) e
+
+pub auipc_at : (w : ℕ) → bit_and w 0x7F ≡ 0x17 → decoded w ≡ Some (Auipc (rd w) (imm_u w))
+unfolding table
+auipc_at w e = at 1 w (lit< tt) e
+
+pub jal_at : (w : ℕ) → bit_and w 0x7F ≡ 0x6F → decoded w ≡ Some (Jal (rd w) (imm_j w))
+unfolding table
+jal_at w e = at 2 w (lit< tt) e
+
+pub jalr_at : (w : ℕ) → bit_and w 0x707F ≡ 0x67 → decoded w ≡ Some (Jalr (rd w) (rs1 w) (imm_i w))
+unfolding table
+jalr_at w e = at 3 w (lit< tt) e
+
+pub beq_at : (w : ℕ) → bit_and w 0x707F ≡ 0x63 → decoded w ≡ Some (Beq (rs1 w) (rs2 w) (imm_b w))
+unfolding table
+beq_at w e = at 4 w (lit< tt) e
+
+pub bne_at : (w : ℕ) → bit_and w 0x707F ≡ 0x1063 → decoded w ≡ Some (Bne (rs1 w) (rs2 w) (imm_b w))
+unfolding table
+bne_at w e = at 5 w (lit< tt) e
+
+pub blt_at : (w : ℕ) → bit_and w 0x707F ≡ 0x4063 → decoded w ≡ Some (Blt (rs1 w) (rs2 w) (imm_b w))
+unfolding table
+blt_at w e = at 6 w (lit< tt) e
+
+pub bge_at : (w : ℕ) → bit_and w 0x707F ≡ 0x5063 → decoded w ≡ Some (Bge (rs1 w) (rs2 w) (imm_b w))
+unfolding table
+bge_at w e = at 7 w (lit< tt) e
+
+pub bltu_at : (w : ℕ) → bit_and w 0x707F ≡ 0x6063 → decoded w ≡ Some (Bltu (rs1 w) (rs2 w) (imm_b w))
+unfolding table
+bltu_at w e = at 8 w (lit< tt) e
+
+pub bgeu_at : (w : ℕ) → bit_and w 0x707F ≡ 0x7063 → decoded w ≡ Some (Bgeu (rs1 w) (rs2 w) (imm_b w))
+unfolding table
+bgeu_at w e = at 9 w (lit< tt) e
+
+pub lb_at : (w : ℕ) → bit_and w 0x707F ≡ 0x3 → decoded w ≡ Some (Lb (rd w) (rs1 w) (imm_i w))
+unfolding table
+lb_at w e = at 10 w (lit< tt) e
+
+pub lh_at : (w : ℕ) → bit_and w 0x707F ≡ 0x1003 → decoded w ≡ Some (Lh (rd w) (rs1 w) (imm_i w))
+unfolding table
+lh_at w e = at 11 w (lit< tt) e
+
+pub lw_at : (w : ℕ) → bit_and w 0x707F ≡ 0x2003 → decoded w ≡ Some (Lw (rd w) (rs1 w) (imm_i w))
+unfolding table
+lw_at w e = at 12 w (lit< tt) e
+
+pub lbu_at : (w : ℕ) → bit_and w 0x707F ≡ 0x4003 → decoded w ≡ Some (Lbu (rd w) (rs1 w) (imm_i w))
+unfolding table
+lbu_at w e = at 13 w (lit< tt) e
+
+pub lhu_at : (w : ℕ) → bit_and w 0x707F ≡ 0x5003 → decoded w ≡ Some (Lhu (rd w) (rs1 w) (imm_i w))
+unfolding table
+lhu_at w e = at 14 w (lit< tt) e
+
+pub sb_at : (w : ℕ) → bit_and w 0x707F ≡ 0x23 → decoded w ≡ Some (Sb (rs1 w) (rs2 w) (imm_s w))
+unfolding table
+sb_at w e = at 15 w (lit< tt) e
+
+pub sh_at : (w : ℕ) → bit_and w 0x707F ≡ 0x1023 → decoded w ≡ Some (Sh (rs1 w) (rs2 w) (imm_s w))
+unfolding table
+sh_at w e = at 16 w (lit< tt) e
+
+pub sw_at : (w : ℕ) → bit_and w 0x707F ≡ 0x2023 → decoded w ≡ Some (Sw (rs1 w) (rs2 w) (imm_s w))
+unfolding table
+sw_at w e = at 17 w (lit< tt) e
+
+pub addi_at : (w : ℕ) → bit_and w 0x707F ≡ 0x13 → decoded w ≡ Some (Addi (rd w) (rs1 w) (imm_i w))
+unfolding table
+addi_at w e = at 18 w (lit< tt) e
+
+pub slti_at : (w : ℕ) → bit_and w 0x707F ≡ 0x2013 → decoded w ≡ Some (Slti (rd w) (rs1 w) (imm_i w))
+unfolding table
+slti_at w e = at 19 w (lit< tt) e
+
+pub sltiu_at : (w : ℕ) → bit_and w 0x707F ≡ 0x3013 → decoded w ≡ Some (Sltiu (rd w) (rs1 w) (imm_i w))
+unfolding table
+sltiu_at w e = at 20 w (lit< tt) e
+
+pub xori_at : (w : ℕ) → bit_and w 0x707F ≡ 0x4013 → decoded w ≡ Some (Xori (rd w) (rs1 w) (imm_i w))
+unfolding table
+xori_at w e = at 21 w (lit< tt) e
+
+pub ori_at : (w : ℕ) → bit_and w 0x707F ≡ 0x6013 → decoded w ≡ Some (Ori (rd w) (rs1 w) (imm_i w))
+unfolding table
+ori_at w e = at 22 w (lit< tt) e
+
+pub andi_at : (w : ℕ) → bit_and w 0x707F ≡ 0x7013 → decoded w ≡ Some (Andi (rd w) (rs1 w) (imm_i w))
+unfolding table
+andi_at w e = at 23 w (lit< tt) e
+
+pub slli_at : (w : ℕ) → bit_and w 0xFE00707F ≡ 0x1013 → decoded w ≡ Some (Slli (rd w) (rs1 w) (shamt w))
+unfolding table
+slli_at w e = at 24 w (lit< tt) e
+
+pub srli_at : (w : ℕ) → bit_and w 0xFE00707F ≡ 0x5013 → decoded w ≡ Some (Srli (rd w) (rs1 w) (shamt w))
+unfolding table
+srli_at w e = at 25 w (lit< tt) e
+
+pub srai_at : (w : ℕ) → bit_and w 0xFE00707F ≡ 0x40005013 → decoded w ≡ Some (Srai (rd w) (rs1 w) (shamt w))
+unfolding table
+srai_at w e = at 26 w (lit< tt) e
+
+pub add_at : (w : ℕ) → bit_and w 0xFE00707F ≡ 0x33 → decoded w ≡ Some (Add (rd w) (rs1 w) (rs2 w))
+unfolding table
+add_at w e = at 27 w (lit< tt) e
+
+pub sll_at : (w : ℕ) → bit_and w 0xFE00707F ≡ 0x1033 → decoded w ≡ Some (Sll (rd w) (rs1 w) (rs2 w))
+unfolding table
+sll_at w e = at 28 w (lit< tt) e
+
+pub slt_at : (w : ℕ) → bit_and w 0xFE00707F ≡ 0x2033 → decoded w ≡ Some (Slt (rd w) (rs1 w) (rs2 w))
+unfolding table
+slt_at w e = at 29 w (lit< tt) e
+
+pub sltu_at : (w : ℕ) → bit_and w 0xFE00707F ≡ 0x3033 → decoded w ≡ Some (Sltu (rd w) (rs1 w) (rs2 w))
+unfolding table
+sltu_at w e = at 30 w (lit< tt) e
+
+pub xor_at : (w : ℕ) → bit_and w 0xFE00707F ≡ 0x4033 → decoded w ≡ Some (Xor (rd w) (rs1 w) (rs2 w))
+unfolding table
+xor_at w e = at 31 w (lit< tt) e
+
+pub srl_at : (w : ℕ) → bit_and w 0xFE00707F ≡ 0x5033 → decoded w ≡ Some (Srl (rd w) (rs1 w) (rs2 w))
+unfolding table
+srl_at w e = at 32 w (lit< tt) e
+
+pub or_at : (w : ℕ) → bit_and w 0xFE00707F ≡ 0x6033 → decoded w ≡ Some (Or (rd w) (rs1 w) (rs2 w))
+unfolding table
+or_at w e = at 33 w (lit< tt) e
+
+pub and_at : (w : ℕ) → bit_and w 0xFE00707F ≡ 0x7033 → decoded w ≡ Some (And (rd w) (rs1 w) (rs2 w))
+unfolding table
+and_at w e = at 34 w (lit< tt) e
+
+pub sub_at : (w : ℕ) → bit_and w 0xFE00707F ≡ 0x40000033 → decoded w ≡ Some (Sub (rd w) (rs1 w) (rs2 w))
+unfolding table
+sub_at w e = at 35 w (lit< tt) e
+
+pub sra_at : (w : ℕ) → bit_and w 0xFE00707F ≡ 0x40005033 → decoded w ≡ Some (Sra (rd w) (rs1 w) (rs2 w))
+unfolding table
+sra_at w e = at 36 w (lit< tt) e
+
+pub mul_at : (w : ℕ) → bit_and w 0xFE00707F ≡ 0x2000033 → decoded w ≡ Some (Mul (rd w) (rs1 w) (rs2 w))
+unfolding table
+mul_at w e = at 37 w (lit< tt) e
+
+pub mulh_at : (w : ℕ) → bit_and w 0xFE00707F ≡ 0x2001033 → decoded w ≡ Some (Mulh (rd w) (rs1 w) (rs2 w))
+unfolding table
+mulh_at w e = at 38 w (lit< tt) e
+
+pub mulhsu_at : (w : ℕ) → bit_and w 0xFE00707F ≡ 0x2002033 → decoded w ≡ Some (Mulhsu (rd w) (rs1 w) (rs2 w))
+unfolding table
+mulhsu_at w e = at 39 w (lit< tt) e
+
+pub mulhu_at : (w : ℕ) → bit_and w 0xFE00707F ≡ 0x2003033 → decoded w ≡ Some (Mulhu (rd w) (rs1 w) (rs2 w))
+unfolding table
+mulhu_at w e = at 40 w (lit< tt) e
+
+pub div_at : (w : ℕ) → bit_and w 0xFE00707F ≡ 0x2004033 → decoded w ≡ Some (Div (rd w) (rs1 w) (rs2 w))
+unfolding table
+div_at w e = at 41 w (lit< tt) e
+
+pub divu_at : (w : ℕ) → bit_and w 0xFE00707F ≡ 0x2005033 → decoded w ≡ Some (Divu (rd w) (rs1 w) (rs2 w))
+unfolding table
+divu_at w e = at 42 w (lit< tt) e
+
+pub rem_at : (w : ℕ) → bit_and w 0xFE00707F ≡ 0x2006033 → decoded w ≡ Some (Rem (rd w) (rs1 w) (rs2 w))
+unfolding table
+rem_at w e = at 43 w (lit< tt) e
+
+pub remu_at : (w : ℕ) → bit_and w 0xFE00707F ≡ 0x2007033 → decoded w ≡ Some (Remu (rd w) (rs1 w) (rs2 w))
+unfolding table
+remu_at w e = at 44 w (lit< tt) e
+
+pub fence_at : (w : ℕ) → bit_and w 0x707F ≡ 0xF → decoded w ≡ Some (Fence (rest w))
+unfolding table
+fence_at w e = at 45 w (lit< tt) e
+
+pub fence_i_at : (w : ℕ) → bit_and w 0x707F ≡ 0x100F → decoded w ≡ Some (FenceI (rest w))
+unfolding table
+fence_i_at w e = at 46 w (lit< tt) e
+
+pub csrrw_at : (w : ℕ) → bit_and w 0x707F ≡ 0x1073 → decoded w ≡ Some (Csrrw (rd w) (rs1 w) (csr w))
+unfolding table
+csrrw_at w e = at 47 w (lit< tt) e
+
+pub csrrs_at : (w : ℕ) → bit_and w 0x707F ≡ 0x2073 → decoded w ≡ Some (Csrrs (rd w) (rs1 w) (csr w))
+unfolding table
+csrrs_at w e = at 48 w (lit< tt) e
+
+pub csrrc_at : (w : ℕ) → bit_and w 0x707F ≡ 0x3073 → decoded w ≡ Some (Csrrc (rd w) (rs1 w) (csr w))
+unfolding table
+csrrc_at w e = at 49 w (lit< tt) e
+
+pub csrrwi_at : (w : ℕ) → bit_and w 0x707F ≡ 0x5073 → decoded w ≡ Some (Csrrwi (rd w) (rs1 w) (csr w))
+unfolding table
+csrrwi_at w e = at 50 w (lit< tt) e
+
+pub csrrsi_at : (w : ℕ) → bit_and w 0x707F ≡ 0x6073 → decoded w ≡ Some (Csrrsi (rd w) (rs1 w) (csr w))
+unfolding table
+csrrsi_at w e = at 51 w (lit< tt) e
+
+pub csrrci_at : (w : ℕ) → bit_and w 0x707F ≡ 0x7073 → decoded w ≡ Some (Csrrci (rd w) (rs1 w) (csr w))
+unfolding table
+csrrci_at w e = at 52 w (lit< tt) e
+
+pub ecall_at : (w : ℕ) → w ≡ 0x73 → decoded w ≡ Some Ecall
+unfolding table
+ecall_at w e = at 53 w (lit< tt) (ap (λ x. bit_and x 0xFFFFFFFF) e)
+
+pub ebreak_at : (w : ℕ) → w ≡ 0x100073 → decoded w ≡ Some Ebreak
+unfolding table
+ebreak_at w e = at 54 w (lit< tt) (ap (λ x. bit_and x 0xFFFFFFFF) e)
+
+pub mret_at : (w : ℕ) → w ≡ 0x30200073 → decoded w ≡ Some Mret
+unfolding table
+mret_at w e = at 55 w (lit< tt) (ap (λ x. bit_and x 0xFFFFFFFF) e)
+
+pub wfi_at : (w : ℕ) → w ≡ 0x10500073 → decoded w ≡ Some Wfi
+unfolding table
+wfi_at w e = at 56 w (lit< tt) (ap (λ x. bit_and x 0xFFFFFFFF) e)
+
+pub lr_at : (w : ℕ) → bit_and w 0xF9F0707F ≡ 0x1000202F → decoded w ≡ Some (Lr (rd w) (rs1 w) (aq w) (rl w))
+unfolding table
+lr_at w e = at 57 w (lit< tt) e
+
+pub sc_at : (w : ℕ) → bit_and w 0xF800707F ≡ 0x1800202F → decoded w ≡ Some (Sc (rd w) (rs1 w) (rs2 w) (aq w) (rl w))
+unfolding table
+sc_at w e = at 58 w (lit< tt) e
+
+pub amo_swap_at : (w : ℕ) → bit_and w 0xF800707F ≡ 0x800202F → decoded w ≡ Some (AmoSwap (rd w) (rs1 w) (rs2 w) (aq w) (rl w))
+unfolding table
+amo_swap_at w e = at 59 w (lit< tt) e
+
+pub amo_add_at : (w : ℕ) → bit_and w 0xF800707F ≡ 0x202F → decoded w ≡ Some (AmoAdd (rd w) (rs1 w) (rs2 w) (aq w) (rl w))
+unfolding table
+amo_add_at w e = at 60 w (lit< tt) e
+
+pub amo_xor_at : (w : ℕ) → bit_and w 0xF800707F ≡ 0x2000202F → decoded w ≡ Some (AmoXor (rd w) (rs1 w) (rs2 w) (aq w) (rl w))
+unfolding table
+amo_xor_at w e = at 61 w (lit< tt) e
+
+pub amo_and_at : (w : ℕ) → bit_and w 0xF800707F ≡ 0x6000202F → decoded w ≡ Some (AmoAnd (rd w) (rs1 w) (rs2 w) (aq w) (rl w))
+unfolding table
+amo_and_at w e = at 62 w (lit< tt) e
+
+pub amo_or_at : (w : ℕ) → bit_and w 0xF800707F ≡ 0x4000202F → decoded w ≡ Some (AmoOr (rd w) (rs1 w) (rs2 w) (aq w) (rl w))
+unfolding table
+amo_or_at w e = at 63 w (lit< tt) e
+
+pub amo_min_at : (w : ℕ) → bit_and w 0xF800707F ≡ 0x8000202F → decoded w ≡ Some (AmoMin (rd w) (rs1 w) (rs2 w) (aq w) (rl w))
+unfolding table
+amo_min_at w e = at 64 w (lit< tt) e
+
+pub amo_max_at : (w : ℕ) → bit_and w 0xF800707F ≡ 0xA000202F → decoded w ≡ Some (AmoMax (rd w) (rs1 w) (rs2 w) (aq w) (rl w))
+unfolding table
+amo_max_at w e = at 65 w (lit< tt) e
+
+pub amo_minu_at : (w : ℕ) → bit_and w 0xF800707F ≡ 0xC000202F → decoded w ≡ Some (AmoMinu (rd w) (rs1 w) (rs2 w) (aq w) (rl w))
+unfolding table
+amo_minu_at w e = at 66 w (lit< tt) e
+
+pub amo_maxu_at : (w : ℕ) → bit_and w 0xF800707F ≡ 0xE000202F → decoded w ≡ Some (AmoMaxu (rd w) (rs1 w) (rs2 w) (aq w) (rl w))
+unfolding table
+amo_maxu_at w e = at 67 w (lit< tt) e
+
+and_zero : (w : ℕ) → bit_and w 0 ≡ 0
+and_zero w = and_mask w 0 ∙ omega arith
+
+all_ones : (w : ℕ) → w < 2 ^ 32 → bit_and w 0xFFFFFFFF ≡ w
+all_ones w l = and_mask w 32 ∙ omega arith
+
+pub load_none : (w : ℕ) → bit_and w 0x7F ≡ 0x3 → bit_and w 0x707F ≢ 0x3 → bit_and w 0x707F ≢ 0x1003 → bit_and w 0x707F ≢ 0x2003 → bit_and w 0x707F ≢ 0x4003 → bit_and w 0x707F ≢ 0x5003 → decoded w ≡ None
+unfolding table
+load_none w e h0 h1 h2 h3 h4 = no_row w 0x7F 0x3 0x707F (0x3 ∷ 0x1003 ∷ 0x2003 ∷ 0x4003 ∷ 0x5003 ∷ []) e (h0, (h1, (h2, (h3, (h4, tt))))) refl
+
+pub ruleset load_rows = (lb_at, lh_at, lw_at, lbu_at, lhu_at, load_none)
+
+pub store_none : (w : ℕ) → bit_and w 0x7F ≡ 0x23 → bit_and w 0x707F ≢ 0x23 → bit_and w 0x707F ≢ 0x1023 → bit_and w 0x707F ≢ 0x2023 → decoded w ≡ None
+unfolding table
+store_none w e h0 h1 h2 = no_row w 0x7F 0x23 0x707F (0x23 ∷ 0x1023 ∷ 0x2023 ∷ []) e (h0, (h1, (h2, tt))) refl
+
+pub ruleset store_rows = (sb_at, sh_at, sw_at, store_none)
+
+pub branch_none : (w : ℕ) → bit_and w 0x7F ≡ 0x63 → bit_and w 0x707F ≢ 0x63 → bit_and w 0x707F ≢ 0x1063 → bit_and w 0x707F ≢ 0x4063 → bit_and w 0x707F ≢ 0x5063 → bit_and w 0x707F ≢ 0x6063 → bit_and w 0x707F ≢ 0x7063 → decoded w ≡ None
+unfolding table
+branch_none w e h0 h1 h2 h3 h4 h5 = no_row w 0x7F 0x63 0x707F (0x63 ∷ 0x1063 ∷ 0x4063 ∷ 0x5063 ∷ 0x6063 ∷ 0x7063 ∷ []) e (h0, (h1, (h2, (h3, (h4, (h5, tt)))))) refl
+
+pub ruleset branch_rows = (beq_at, bne_at, blt_at, bge_at, bltu_at, bgeu_at, branch_none)
+
+pub jump_register_none : (w : ℕ) → bit_and w 0x7F ≡ 0x67 → bit_and w 0x707F ≢ 0x67 → decoded w ≡ None
+unfolding table
+jump_register_none w e h0 = no_row w 0x7F 0x67 0x707F (0x67 ∷ []) e (h0, tt) refl
+
+pub ruleset jump_register_rows = (jalr_at, jump_register_none)
+
+pub immediate_none : (w : ℕ) → bit_and w 0x7F ≡ 0x13 → bit_and w 0x707F ≢ 0x13 → bit_and w 0x707F ≢ 0x2013 → bit_and w 0x707F ≢ 0x3013 → bit_and w 0x707F ≢ 0x4013 → bit_and w 0x707F ≢ 0x6013 → bit_and w 0x707F ≢ 0x7013 → bit_and w 0x707F ≢ 0x1013 → bit_and w 0x707F ≢ 0x5013 → decoded w ≡ None
+unfolding table
+immediate_none w e h0 h1 h2 h3 h4 h5 h6 h7 = no_row w 0x7F 0x13 0x707F (0x13 ∷ 0x2013 ∷ 0x3013 ∷ 0x4013 ∷ 0x6013 ∷ 0x7013 ∷ 0x1013 ∷ 0x5013 ∷ []) e (h0, (h1, (h2, (h3, (h4, (h5, (h6, (h7, tt)))))))) refl
+
+pub ruleset immediate_rows = (addi_at, slti_at, sltiu_at, xori_at, ori_at, andi_at, immediate_none)
+
+pub shift_left_none : (w : ℕ) → bit_and w 0x707F ≡ 0x1013 → bit_and w 0xFE00707F ≢ 0x1013 → decoded w ≡ None
+unfolding table
+shift_left_none w e h0 = no_row w 0x707F 0x1013 0xFE00707F (0x1013 ∷ []) e (h0, tt) refl
+
+pub ruleset shift_left_rows = (slli_at, shift_left_none)
+
+pub shift_right_none : (w : ℕ) → bit_and w 0x707F ≡ 0x5013 → bit_and w 0xFE00707F ≢ 0x5013 → bit_and w 0xFE00707F ≢ 0x40005013 → decoded w ≡ None
+unfolding table
+shift_right_none w e h0 h1 = no_row w 0x707F 0x5013 0xFE00707F (0x5013 ∷ 0x40005013 ∷ []) e (h0, (h1, tt)) refl
+
+pub ruleset shift_right_rows = (srli_at, srai_at, shift_right_none)
+
+pub register_none : (w : ℕ) → bit_and w 0x7F ≡ 0x33 → bit_and w 0xFE00707F ≢ 0x33 → bit_and w 0xFE00707F ≢ 0x1033 → bit_and w 0xFE00707F ≢ 0x2033 → bit_and w 0xFE00707F ≢ 0x3033 → bit_and w 0xFE00707F ≢ 0x4033 → bit_and w 0xFE00707F ≢ 0x5033 → bit_and w 0xFE00707F ≢ 0x6033 → bit_and w 0xFE00707F ≢ 0x7033 → bit_and w 0xFE00707F ≢ 0x40000033 → bit_and w 0xFE00707F ≢ 0x40005033 → bit_and w 0xFE00707F ≢ 0x2000033 → bit_and w 0xFE00707F ≢ 0x2001033 → bit_and w 0xFE00707F ≢ 0x2002033 → bit_and w 0xFE00707F ≢ 0x2003033 → bit_and w 0xFE00707F ≢ 0x2004033 → bit_and w 0xFE00707F ≢ 0x2005033 → bit_and w 0xFE00707F ≢ 0x2006033 → bit_and w 0xFE00707F ≢ 0x2007033 → decoded w ≡ None
+unfolding table
+register_none w e h0 h1 h2 h3 h4 h5 h6 h7 h8 h9 h10 h11 h12 h13 h14 h15 h16 h17 = no_row w 0x7F 0x33 0xFE00707F (0x33 ∷ 0x1033 ∷ 0x2033 ∷ 0x3033 ∷ 0x4033 ∷ 0x5033 ∷ 0x6033 ∷ 0x7033 ∷ 0x40000033 ∷ 0x40005033 ∷ 0x2000033 ∷ 0x2001033 ∷ 0x2002033 ∷ 0x2003033 ∷ 0x2004033 ∷ 0x2005033 ∷ 0x2006033 ∷ 0x2007033 ∷ []) e (h0, (h1, (h2, (h3, (h4, (h5, (h6, (h7, (h8, (h9, (h10, (h11, (h12, (h13, (h14, (h15, (h16, (h17, tt)))))))))))))))))) refl
+
+pub ruleset register_rows = (add_at, sll_at, slt_at, sltu_at, xor_at, srl_at, or_at, and_at, sub_at, sra_at, mul_at, mulh_at, mulhsu_at, mulhu_at, div_at, divu_at, rem_at, remu_at, register_none)
+
+pub fence_none : (w : ℕ) → bit_and w 0x7F ≡ 0xF → bit_and w 0x707F ≢ 0xF → bit_and w 0x707F ≢ 0x100F → decoded w ≡ None
+unfolding table
+fence_none w e h0 h1 = no_row w 0x7F 0xF 0x707F (0xF ∷ 0x100F ∷ []) e (h0, (h1, tt)) refl
+
+pub ruleset fence_rows = (fence_at, fence_i_at, fence_none)
+
+pub system_none : (w : ℕ) → bit_and w 0x7F ≡ 0x73 → bit_and w 0x707F ≢ 0x1073 → bit_and w 0x707F ≢ 0x2073 → bit_and w 0x707F ≢ 0x3073 → bit_and w 0x707F ≢ 0x5073 → bit_and w 0x707F ≢ 0x6073 → bit_and w 0x707F ≢ 0x7073 → bit_and w 0x707F ≢ 0x73 → decoded w ≡ None
+unfolding table
+system_none w e h0 h1 h2 h3 h4 h5 h6 = no_row w 0x7F 0x73 0x707F (0x1073 ∷ 0x2073 ∷ 0x3073 ∷ 0x5073 ∷ 0x6073 ∷ 0x7073 ∷ 0x73 ∷ []) e (h0, (h1, (h2, (h3, (h4, (h5, (h6, tt))))))) refl
+
+pub ruleset system_rows = (csrrw_at, csrrs_at, csrrc_at, csrrwi_at, csrrsi_at, csrrci_at, system_none)
+
+pub whole_none : (w : ℕ) → w < 2 ^ 32 → bit_and w 0x707F ≡ 0x73 → w ≢ 0x73 → w ≢ 0x100073 → w ≢ 0x30200073 → w ≢ 0x10500073 → decoded w ≡ None
+unfolding table
+whole_none w l e h0 h1 h2 h3 = no_row w 0x707F 0x73 0xFFFFFFFF (0x73 ∷ 0x100073 ∷ 0x30200073 ∷ 0x10500073 ∷ []) e ((λ f. h0 (sym (all_ones w l) ∙ f)), ((λ f. h1 (sym (all_ones w l) ∙ f)), ((λ f. h2 (sym (all_ones w l) ∙ f)), ((λ f. h3 (sym (all_ones w l) ∙ f)), tt)))) refl
+
+pub ruleset whole_rows = (ecall_at, ebreak_at, mret_at, wfi_at, whole_none)
+
+pub reserving_none : (w : ℕ) → bit_and w 0xF800707F ≡ 0x1000202F → bit_and w 0xF9F0707F ≢ 0x1000202F → decoded w ≡ None
+unfolding table
+reserving_none w e h0 = no_row w 0xF800707F 0x1000202F 0xF9F0707F (0x1000202F ∷ []) e (h0, tt) refl
+
+pub ruleset reserving_rows = (lr_at, reserving_none)
+
+pub atomic_none : (w : ℕ) → bit_and w 0x7F ≡ 0x2F → bit_and w 0xF800707F ≢ 0x1800202F → bit_and w 0xF800707F ≢ 0x800202F → bit_and w 0xF800707F ≢ 0x202F → bit_and w 0xF800707F ≢ 0x2000202F → bit_and w 0xF800707F ≢ 0x6000202F → bit_and w 0xF800707F ≢ 0x4000202F → bit_and w 0xF800707F ≢ 0x8000202F → bit_and w 0xF800707F ≢ 0xA000202F → bit_and w 0xF800707F ≢ 0xC000202F → bit_and w 0xF800707F ≢ 0xE000202F → bit_and w 0xF800707F ≢ 0x1000202F → decoded w ≡ None
+unfolding table
+atomic_none w e h0 h1 h2 h3 h4 h5 h6 h7 h8 h9 h10 = no_row w 0x7F 0x2F 0xF800707F (0x1800202F ∷ 0x800202F ∷ 0x202F ∷ 0x2000202F ∷ 0x6000202F ∷ 0x4000202F ∷ 0x8000202F ∷ 0xA000202F ∷ 0xC000202F ∷ 0xE000202F ∷ 0x1000202F ∷ []) e (h0, (h1, (h2, (h3, (h4, (h5, (h6, (h7, (h8, (h9, (h10, tt))))))))))) refl
+
+pub ruleset atomic_rows = (sc_at, amo_swap_at, amo_add_at, amo_xor_at, amo_and_at, amo_or_at, amo_min_at, amo_max_at, amo_minu_at, amo_maxu_at, atomic_none)
+
+pub opcode_none : (w : ℕ) → bit_and w 0x7F ≢ 0x37 → bit_and w 0x7F ≢ 0x17 → bit_and w 0x7F ≢ 0x6F → bit_and w 0x7F ≢ 0x67 → bit_and w 0x7F ≢ 0x63 → bit_and w 0x7F ≢ 0x3 → bit_and w 0x7F ≢ 0x23 → bit_and w 0x7F ≢ 0x13 → bit_and w 0x7F ≢ 0x33 → bit_and w 0x7F ≢ 0xF → bit_and w 0x7F ≢ 0x73 → bit_and w 0x7F ≢ 0x2F → decoded w ≡ None
+unfolding table
+opcode_none w h0 h1 h2 h3 h4 h5 h6 h7 h8 h9 h10 h11 = no_row w 0x0 0x0 0x7F (0x37 ∷ 0x17 ∷ 0x6F ∷ 0x67 ∷ 0x63 ∷ 0x3 ∷ 0x23 ∷ 0x13 ∷ 0x33 ∷ 0xF ∷ 0x73 ∷ 0x2F ∷ []) (and_zero w) (h0, (h1, (h2, (h3, (h4, (h5, (h6, (h7, (h8, (h9, (h10, (h11, tt)))))))))))) refl
+
+pub ruleset opcode_rows = (lui_at, auipc_at, jal_at, opcode_none)

@@ -1,0 +1,383 @@
+//! Reading a word by the instruction table: one function an opcode, on the bits that its rows fix.
+
+ghost use Rattle.std.specs.Prelude.{◌≡◌, false, IsTrue, IfSome, All, Contains, bit_and};
+ghost use Rattle.rv_isa.specs.Table.{Row, table, fits, decoded, HasOneRow, IsSpelled};
+ghost use Rattle.rv_isa.specs.Ranges.{IsWithin};
+
+use crate::fields::{
+    aq_of, csr_of, imm_b, imm_i, imm_j, imm_s, imm_u, rd_of, rest_of, rl_of, rs1_of, rs2_of,
+};
+use crate::instr::Instr;
+
+/// The instruction that a word says by the instruction table, `None` where no row fits it (RISC-V
+/// unprivileged, RV32I, M, A, Zicsr and Zifencei; privileged, MRET and WFI).
+#[inline(always)]
+pub fn decode(word: u32) -> Option<Instr>
+    ensures value { result ≡ decoded word }
+
+    // No two rows fit a word, and the one that does is the one that is read.
+    ensures one_row { HasOneRow word }
+    ensures row { (row : Row) → Contains table row → IsTrue (fits row word) → result ≡ Some (row.read word) }
+    ensures none { result ≡ None → All (λ row. fits row word ≡ false) table }
+
+    // What a word says is within its fields.
+    ensures within { IfSome result IsWithin }
+    ensures spelled { IfSome result IsSpelled }
+{
+    instruction(word)
+}
+
+// The value alone, on the opcode.
+#[tactic(auto, using(crate::proofs::Decoding::opcode_rows))]
+#[inline(always)]
+fn instruction(word: u32) -> Option<Instr>
+    ensures { result ≡ decoded word }
+{
+    let rd = rd_of(word);
+    match word & 0x7f {
+        0x37 => Some(Instr::Lui {
+            rd,
+            imm: imm_u(word),
+        }),
+        0x17 => Some(Instr::Auipc {
+            rd,
+            imm: imm_u(word),
+        }),
+        0x6f => Some(Instr::Jal {
+            rd,
+            imm: imm_j(word),
+        }),
+        0x67 => jump_register(word),
+        0x63 => branch(word),
+        0x03 => load(word),
+        0x23 => store(word),
+        0x13 => immediate(word),
+        0x33 => register(word),
+        0x0f => fence(word),
+        0x73 => system(word),
+        0x2f => atomic(word),
+        _ => None,
+    }
+}
+
+// A word with the opcode LOAD (2.6).
+#[tactic(auto, using(crate::proofs::Decoding::load_rows))]
+#[inline(always)]
+fn load(word: u32) -> Option<Instr>
+    requires { bit_and word 0x7f ≡ 0x03 }
+    ensures { result ≡ decoded word }
+{
+    let rd = rd_of(word);
+    let rs1 = rs1_of(word);
+    let imm = imm_i(word);
+    match word & 0x707f {
+        0x03 => Some(Instr::Lb { rd, rs1, imm }),
+        0x1003 => Some(Instr::Lh { rd, rs1, imm }),
+        0x2003 => Some(Instr::Lw { rd, rs1, imm }),
+        0x4003 => Some(Instr::Lbu { rd, rs1, imm }),
+        0x5003 => Some(Instr::Lhu { rd, rs1, imm }),
+        _ => None,
+    }
+}
+
+// A word with the opcode STORE (2.6).
+#[tactic(auto, using(crate::proofs::Decoding::store_rows))]
+#[inline(always)]
+fn store(word: u32) -> Option<Instr>
+    requires { bit_and word 0x7f ≡ 0x23 }
+    ensures { result ≡ decoded word }
+{
+    let rs1 = rs1_of(word);
+    let rs2 = rs2_of(word);
+    let imm = imm_s(word);
+    match word & 0x707f {
+        0x23 => Some(Instr::Sb { rs1, rs2, imm }),
+        0x1023 => Some(Instr::Sh { rs1, rs2, imm }),
+        0x2023 => Some(Instr::Sw { rs1, rs2, imm }),
+        _ => None,
+    }
+}
+
+// A word with the opcode BRANCH (2.5).
+#[tactic(auto, using(crate::proofs::Decoding::branch_rows))]
+#[inline(always)]
+fn branch(word: u32) -> Option<Instr>
+    requires { bit_and word 0x7f ≡ 0x63 }
+    ensures { result ≡ decoded word }
+{
+    let rs1 = rs1_of(word);
+    let rs2 = rs2_of(word);
+    let imm = imm_b(word);
+    match word & 0x707f {
+        0x63 => Some(Instr::Beq { rs1, rs2, imm }),
+        0x1063 => Some(Instr::Bne { rs1, rs2, imm }),
+        0x4063 => Some(Instr::Blt { rs1, rs2, imm }),
+        0x5063 => Some(Instr::Bge { rs1, rs2, imm }),
+        0x6063 => Some(Instr::Bltu { rs1, rs2, imm }),
+        0x7063 => Some(Instr::Bgeu { rs1, rs2, imm }),
+        _ => None,
+    }
+}
+
+// A word with the opcode JALR (2.5).
+#[tactic(auto, using(crate::proofs::Decoding::jump_register_rows))]
+#[inline(always)]
+fn jump_register(word: u32) -> Option<Instr>
+    requires { bit_and word 0x7f ≡ 0x67 }
+    ensures { result ≡ decoded word }
+{
+    let rd = rd_of(word);
+    let rs1 = rs1_of(word);
+    let imm = imm_i(word);
+    match word & 0x707f {
+        0x67 => Some(Instr::Jalr { rd, rs1, imm }),
+        _ => None,
+    }
+}
+
+// A word with the opcode OP-IMM (2.4).
+#[tactic(auto, using(crate::proofs::Decoding::immediate_rows))]
+#[inline(always)]
+fn immediate(word: u32) -> Option<Instr>
+    requires { bit_and word 0x7f ≡ 0x13 }
+    ensures { result ≡ decoded word }
+{
+    let rd = rd_of(word);
+    let rs1 = rs1_of(word);
+    let imm = imm_i(word);
+    match word & 0x707f {
+        0x13 => Some(Instr::Addi { rd, rs1, imm }),
+        0x2013 => Some(Instr::Slti { rd, rs1, imm }),
+        0x3013 => Some(Instr::Sltiu { rd, rs1, imm }),
+        0x4013 => Some(Instr::Xori { rd, rs1, imm }),
+        0x6013 => Some(Instr::Ori { rd, rs1, imm }),
+        0x7013 => Some(Instr::Andi { rd, rs1, imm }),
+        0x1013 => shift_left(word),
+        0x5013 => shift_right(word),
+        _ => None,
+    }
+}
+
+// A word with the opcode OP-IMM and funct3 1.
+#[tactic(auto, using(crate::proofs::Decoding::shift_left_rows))]
+#[inline(always)]
+fn shift_left(word: u32) -> Option<Instr>
+    requires { bit_and word 0x707f ≡ 0x1013 }
+    ensures { result ≡ decoded word }
+{
+    let rd = rd_of(word);
+    let rs1 = rs1_of(word);
+    let shamt = rs2_of(word);
+    match word & 0xfe00_707f {
+        0x1013 => Some(Instr::Slli { rd, rs1, shamt }),
+        _ => None,
+    }
+}
+
+// A word with the opcode OP-IMM and funct3 5.
+#[tactic(auto, using(crate::proofs::Decoding::shift_right_rows))]
+#[inline(always)]
+fn shift_right(word: u32) -> Option<Instr>
+    requires { bit_and word 0x707f ≡ 0x5013 }
+    ensures { result ≡ decoded word }
+{
+    let rd = rd_of(word);
+    let rs1 = rs1_of(word);
+    let shamt = rs2_of(word);
+    match word & 0xfe00_707f {
+        0x5013 => Some(Instr::Srli { rd, rs1, shamt }),
+        0x4000_5013 => Some(Instr::Srai { rd, rs1, shamt }),
+        _ => None,
+    }
+}
+
+// A word with the opcode OP (2.4 and M).
+#[tactic(auto, using(crate::proofs::Decoding::register_rows))]
+#[inline(always)]
+fn register(word: u32) -> Option<Instr>
+    requires { bit_and word 0x7f ≡ 0x33 }
+    ensures { result ≡ decoded word }
+{
+    let rd = rd_of(word);
+    let rs1 = rs1_of(word);
+    let rs2 = rs2_of(word);
+    match word & 0xfe00_707f {
+        0x33 => Some(Instr::Add { rd, rs1, rs2 }),
+        0x1033 => Some(Instr::Sll { rd, rs1, rs2 }),
+        0x2033 => Some(Instr::Slt { rd, rs1, rs2 }),
+        0x3033 => Some(Instr::Sltu { rd, rs1, rs2 }),
+        0x4033 => Some(Instr::Xor { rd, rs1, rs2 }),
+        0x5033 => Some(Instr::Srl { rd, rs1, rs2 }),
+        0x6033 => Some(Instr::Or { rd, rs1, rs2 }),
+        0x7033 => Some(Instr::And { rd, rs1, rs2 }),
+        0x4000_0033 => Some(Instr::Sub { rd, rs1, rs2 }),
+        0x4000_5033 => Some(Instr::Sra { rd, rs1, rs2 }),
+        0x0200_0033 => Some(Instr::Mul { rd, rs1, rs2 }),
+        0x0200_1033 => Some(Instr::Mulh { rd, rs1, rs2 }),
+        0x0200_2033 => Some(Instr::Mulhsu { rd, rs1, rs2 }),
+        0x0200_3033 => Some(Instr::Mulhu { rd, rs1, rs2 }),
+        0x0200_4033 => Some(Instr::Div { rd, rs1, rs2 }),
+        0x0200_5033 => Some(Instr::Divu { rd, rs1, rs2 }),
+        0x0200_6033 => Some(Instr::Rem { rd, rs1, rs2 }),
+        0x0200_7033 => Some(Instr::Remu { rd, rs1, rs2 }),
+        _ => None,
+    }
+}
+
+// A word with the opcode MISC-MEM (2.7).
+#[tactic(auto, using(crate::proofs::Decoding::fence_rows))]
+#[inline(always)]
+fn fence(word: u32) -> Option<Instr>
+    requires { bit_and word 0x7f ≡ 0x0f }
+    ensures { result ≡ decoded word }
+{
+    let rest = rest_of(word);
+    match word & 0x707f {
+        0x0f => Some(Instr::Fence { rest }),
+        0x100f => Some(Instr::FenceI { rest }),
+        _ => None,
+    }
+}
+
+// A word with the opcode SYSTEM (2.8 and Zicsr).
+#[tactic(auto, using(crate::proofs::Decoding::system_rows))]
+#[inline(always)]
+fn system(word: u32) -> Option<Instr>
+    requires { bit_and word 0x7f ≡ 0x73 }
+    ensures { result ≡ decoded word }
+{
+    let rd = rd_of(word);
+    let rs1 = rs1_of(word);
+    let csr = csr_of(word);
+    match word & 0x707f {
+        0x1073 => Some(Instr::Csrrw { rd, rs1, csr }),
+        0x2073 => Some(Instr::Csrrs { rd, rs1, csr }),
+        0x3073 => Some(Instr::Csrrc { rd, rs1, csr }),
+        0x5073 => Some(Instr::Csrrwi { rd, imm: rs1, csr }),
+        0x6073 => Some(Instr::Csrrsi { rd, imm: rs1, csr }),
+        0x7073 => Some(Instr::Csrrci { rd, imm: rs1, csr }),
+        0x73 => whole(word),
+        _ => None,
+    }
+}
+
+// A word with the opcode SYSTEM and funct3 0.
+#[tactic(auto, using(crate::proofs::Decoding::whole_rows))]
+#[inline(always)]
+fn whole(word: u32) -> Option<Instr>
+    requires { bit_and word 0x707f ≡ 0x73 }
+    ensures { result ≡ decoded word }
+{
+    match word {
+        0x73 => Some(Instr::Ecall),
+        0x0010_0073 => Some(Instr::Ebreak),
+        0x3020_0073 => Some(Instr::Mret),
+        0x1050_0073 => Some(Instr::Wfi),
+        _ => None,
+    }
+}
+
+// A word with the opcode AMO, funct3 2 and the funct5 of LR.
+#[tactic(auto, using(crate::proofs::Decoding::reserving_rows))]
+#[inline(always)]
+fn reserving(word: u32) -> Option<Instr>
+    requires { bit_and word 0xf800_707f ≡ 0x1000_202f }
+    ensures { result ≡ decoded word }
+{
+    let rd = rd_of(word);
+    let rs1 = rs1_of(word);
+    let aq = aq_of(word);
+    let rl = rl_of(word);
+    match word & 0xf9f0_707f {
+        0x1000_202f => Some(Instr::Lr { rd, rs1, aq, rl }),
+        _ => None,
+    }
+}
+
+// A word with the opcode AMO (A).
+#[tactic(auto, using(crate::proofs::Decoding::atomic_rows))]
+#[inline(always)]
+fn atomic(word: u32) -> Option<Instr>
+    requires { bit_and word 0x7f ≡ 0x2f }
+    ensures { result ≡ decoded word }
+{
+    let rd = rd_of(word);
+    let rs1 = rs1_of(word);
+    let rs2 = rs2_of(word);
+    let aq = aq_of(word);
+    let rl = rl_of(word);
+    match word & 0xf800_707f {
+        0x1800_202f => Some(Instr::Sc {
+            rd,
+            rs1,
+            rs2,
+            aq,
+            rl,
+        }),
+        0x0800_202f => Some(Instr::AmoSwap {
+            rd,
+            rs1,
+            rs2,
+            aq,
+            rl,
+        }),
+        0x202f => Some(Instr::AmoAdd {
+            rd,
+            rs1,
+            rs2,
+            aq,
+            rl,
+        }),
+        0x2000_202f => Some(Instr::AmoXor {
+            rd,
+            rs1,
+            rs2,
+            aq,
+            rl,
+        }),
+        0x6000_202f => Some(Instr::AmoAnd {
+            rd,
+            rs1,
+            rs2,
+            aq,
+            rl,
+        }),
+        0x4000_202f => Some(Instr::AmoOr {
+            rd,
+            rs1,
+            rs2,
+            aq,
+            rl,
+        }),
+        0x8000_202f => Some(Instr::AmoMin {
+            rd,
+            rs1,
+            rs2,
+            aq,
+            rl,
+        }),
+        0xa000_202f => Some(Instr::AmoMax {
+            rd,
+            rs1,
+            rs2,
+            aq,
+            rl,
+        }),
+        0xc000_202f => Some(Instr::AmoMinu {
+            rd,
+            rs1,
+            rs2,
+            aq,
+            rl,
+        }),
+        0xe000_202f => Some(Instr::AmoMaxu {
+            rd,
+            rs1,
+            rs2,
+            aq,
+            rl,
+        }),
+        0x1000_202f => reserving(word),
+        _ => None,
+    }
+}
