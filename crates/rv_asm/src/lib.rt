@@ -1,0 +1,5 @@
+//! The assembler and the disassembler.
+#![tactic(auto)]
+
+mod forms;
+mod kinds;
