@@ -1,2 +1,7 @@
+pub mod Faults
 pub mod Forms
+pub mod Lines
+pub mod Operands
 pub mod Parts
+pub mod Statements
+pub mod Texts
