@@ -1,6 +1,6 @@
 -- What a word says, a row at a time, and what no row is for.
-use Rattle.std.proofs.Common.{◌≡◌, ◌≢◌, ℕ, ◌<◌, ◌^◌, bit_and, Some, None, ap, length, get_or, eq-eqb, lit<, refl, ◌∷◌, [], sym, ◌∙◌, arith}
-use Rattle.std.proofs.lemmas.Nat.{and_mask}
+use Rattle.std.proofs.Common.{◌≡◌, ◌≢◌, ℕ, ◌<◌, ◌^◌, bit_and, Some, None, ap, length, get_or, eq-eqb, lit<, refl, ◌∷◌, [], sym, ◌∙◌}
+use Rattle.rv_isa.proofs.Masks.{and_zero, all_ones}
 use Rattle.rv_isa.specs.declared.instr.Instr.TheVariants.{Lui, Auipc, Jal, Jalr, Beq, Bne, Blt, Bge, Bltu, Bgeu, Lb, Lh, Lw, Lbu, Lhu, Sb, Sh, Sw, Addi, Slti, Sltiu, Xori, Ori, Andi, Slli, Srli, Srai, Add, Sll, Slt, Sltu, Xor, Srl, Or, And, Sub, Sra, Mul, Mulh, Mulhsu, Mulhu, Div, Divu, Rem, Remu, Fence, FenceI, Csrrw, Csrrs, Csrrc, Csrrwi, Csrrsi, Csrrci, Ecall, Ebreak, Mret, Wfi, Lr, Sc, AmoSwap, AmoAdd, AmoXor, AmoAnd, AmoOr, AmoMin, AmoMax, AmoMinu, AmoMaxu}
 use Rattle.rv_isa.specs.Fields.{rd, rs1, rs2, shamt, imm_i, imm_s, imm_b, imm_u, imm_j, csr, aq, rl, rest}
 use Rattle.rv_isa.specs.Table.{table, whole, decoded}
@@ -281,12 +281,6 @@ amo_minu_at w e = at 66 w (lit< tt) e
 pub amo_maxu_at : (w : ℕ) → bit_and w 0xF800707F ≡ 0xE000202F → decoded w ≡ Some (AmoMaxu (rd w) (rs1 w) (rs2 w) (aq w) (rl w))
 unfolding table
 amo_maxu_at w e = at 67 w (lit< tt) e
-
-and_zero : (w : ℕ) → bit_and w 0 ≡ 0
-and_zero w = and_mask w 0 ∙ omega arith
-
-all_ones : (w : ℕ) → w < 2 ^ 32 → bit_and w 0xFFFFFFFF ≡ w
-all_ones w l = and_mask w 32 ∙ omega arith
 
 pub load_none : (w : ℕ) → bit_and w 0x7F ≡ 0x3 → bit_and w 0x707F ≢ 0x3 → bit_and w 0x707F ≢ 0x1003 → bit_and w 0x707F ≢ 0x2003 → bit_and w 0x707F ≢ 0x4003 → bit_and w 0x707F ≢ 0x5003 → decoded w ≡ None
 unfolding table

@@ -4,7 +4,7 @@ use Rattle.std.proofs.lemmas.Bool.{and_parts, or_cases, not-true, false_from_ne_
 use Rattle.std.proofs.lemmas.Nat.{and_assoc, and_comm}
 use Rattle.std.specs.Prelude.{All, IsTrue, Contains}
 use Rattle.std.specs.List.{list_all}
-use Rattle.rv_isa.specs.Table.{Row, table, fits, read_by, decoded, HasOneRow}
+use Rattle.rv_isa.specs.Table.{Row, table, fits, read_by, decoded, HasAtMostOneRow}
 
 -- some bit that both rows fix differs
 abbrev pub apart : Row → Row → Bool
@@ -44,7 +44,7 @@ table_apart : all_apart table ≡ true
 unfolding table
 table_apart = refl
 
-pub one_row : (w : ℕ) → HasOneRow w
+pub one_row : (w : ℕ) → HasAtMostOneRow w
 one_row w i j d h l (e, f) = not_both w (get_or table i d) (get_or table j d) (apart_at table i j d table_apart h l) e f
 
 -- a row that fits is the one that is read

@@ -1,21 +1,13 @@
 -- What a word says is within its fields, and is spelled by that word.
-use Rattle.std.proofs.Common.{◌≡◌, ℕ, ◌+◌, ◌*◌, ◌/◌, ◌<◌, ◌≤◌, ◌^◌, ◌%◌, ◌-◌, suc, negsuc, inl, inr, lt-ltb, le-ltb, ◌∙◌, true, false, cond, pos, ◌-ℤ◌, Option, Some, None, List, [], ◌∷◌, arith, rules, refl}
+use Rattle.std.proofs.Common.{◌≡◌, ℕ, ◌+◌, ◌*◌, ◌/◌, ◌<◌, ◌^◌, ◌%◌, ◌-◌, suc, negsuc, inl, inr, true, false, cond, pos, Option, Some, None, List, [], ◌∷◌, arith, rules, refl}
 use Rattle.std.specs.Prelude.{IfSome}
 use Rattle.std.proofs.lemmas.Int.{ints}
-use Rattle.std.proofs.lemmas.Bool.{cond-true, cond-false, cases_lt}
+use Rattle.std.proofs.lemmas.Bool.{cases_lt}
+use Rattle.rv_isa.proofs.Signs.{signed_low, signed_high}
 use Rattle.rv_isa.specs.declared.instr.Instr.{Instr}
 use Rattle.rv_isa.specs.Fields.{signed, imm_i, imm_s, imm_b, imm_j}
 use Rattle.rv_isa.specs.Table.{Row, table, fits, read_by, decoded, IsSpelled}
 use Rattle.rv_isa.specs.Ranges.{IsSigned, IsOffset, IsWithin}
-
--- a number without its sign bit, and one with it
-pub signed_low : (k n : ℕ) → n < 2 ^ (k - 1) → signed k n ≡ pos n
-signed_low k n l = cond-true _ _ _ (lt-ltb _ _ l)
-
-pub signed_high : (k n : ℕ) → 2 ^ (k - 1) ≤ n → n < 2 ^ k → signed k n ≡ negsuc (2 ^ k - suc n)
-signed_high k n h l =
-    let below : pos n -ℤ pos (2 ^ k) ≡ negsuc (2 ^ k - suc n) = omega (arith, ints) in
-    cond-false _ (pos n) (pos n -ℤ pos (2 ^ k)) (le-ltb _ _ h) ∙ below
 
 signed_12 : (n : ℕ) → n < 2 ^ 12 → IsSigned 12 (signed 12 n)
 signed_12 n l =
@@ -75,7 +67,7 @@ within w l = by_rows w table (table_within w l)
 
 spelled_by : (w : ℕ) (o : Option Instr) → w < 2 ^ 32 → decoded w ≡ o → IfSome o IsSpelled
 spelled_by w None l e = tt
-spelled_by w (Some i) l e = (w, l, e)
+spelled_by w (Some i) l e = record { word = w; in_range = l; says = e }
 
 pub spelled : (w : ℕ) → w < 2 ^ 32 → IfSome (decoded w) IsSpelled
 spelled w l = spelled_by w (decoded w) l refl

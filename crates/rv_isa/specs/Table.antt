@@ -148,9 +148,11 @@ unfoldable pub decoded : ℕ → Option Instr
 decoded w = read_by table w
 
 -- no two rows of the table fit the word
-abbrev pub HasOneRow : ℕ → Type 0
-HasOneRow w = AllPairs (λ r s. ¬ (IsTrue (fits r w) × IsTrue (fits s w))) table
+abbrev pub HasAtMostOneRow : ℕ → Type 0
+HasAtMostOneRow w = AllPairs (λ r s. ¬ (IsTrue (fits r w) × IsTrue (fits s w))) table
 
 -- some word says this instruction
-abbrev pub IsSpelled : Instr → Type 0
-IsSpelled i = (w : ℕ) × (w < 2 ^ 32) × (decoded w ≡ Some i)
+pub record IsSpelled (i : Instr) : Type 0 where
+  pub word : ℕ
+  pub in_range : word < 2 ^ 32
+  pub says : decoded word ≡ Some i

@@ -1,7 +1,7 @@
 //! Reading a word by the instruction table: one function an opcode, on the bits that its rows fix.
 
 ghost use Rattle.std.specs.Prelude.{◌≡◌, false, IsTrue, IfSome, All, Contains, bit_and};
-ghost use Rattle.rv_isa.specs.Table.{Row, table, fits, decoded, HasOneRow, IsSpelled};
+ghost use Rattle.rv_isa.specs.Table.{Row, table, fits, decoded, HasAtMostOneRow, IsSpelled};
 ghost use Rattle.rv_isa.specs.Ranges.{IsWithin};
 
 use crate::fields::{
@@ -16,8 +16,8 @@ pub fn decode(word: u32) -> Option<Instr>
     ensures value { result ≡ decoded word }
 
     // No two rows fit a word, and the one that does is the one that is read.
-    ensures one_row { HasOneRow word }
-    ensures row { (row : Row) → Contains table row → IsTrue (fits row word) → result ≡ Some (row.read word) }
+    ensures one_row { HasAtMostOneRow word }
+    ensures row { (r : Row) → Contains table r → IsTrue (fits r word) → result ≡ Some (r.read word) }
     ensures none { result ≡ None → All (λ row. fits row word ≡ false) table }
 
     // What a word says is within its fields.

@@ -2,8 +2,12 @@
 #![tactic(auto)]
 
 mod decoder;
+mod encoder;
 mod fields;
 mod instr;
+#[cfg(test)]
+mod tests;
 
 pub use decoder::decode;
+pub use encoder::encode;
 pub use instr::Instr;
