@@ -7,7 +7,7 @@ use Rattle.rv_text.specs.Reading.{capped, limit}
 use Rattle.rv_asm.specs.declared.fault.Why.{Why}
 use Rattle.rv_asm.specs.declared.fault.Why.TheVariants.{Range}
 use Rattle.rv_asm.specs.Faults.{◌>>=◌}
-use Rattle.rv_asm.specs.Operands.{is_within, signed, even, unsigned, word, number_or}
+use Rattle.rv_asm.specs.Operands.{is_within, signed, even, unsigned, word, number_else}
 
 bound_low : (negative : Bool) (low high : ℕ) → low < limit → high < limit → cond negative low high < limit
 bound_low true low high l h = l
@@ -30,10 +30,6 @@ capped_same low high f l h rejects n =
           ap (λ (m : ℕ). f (record { negative = n.negative; magnitude = m })) uncut
     ]
 
-capped_or : {X : Type 0} (f : Number → Result X Why) → ((n : Number) → f (capped n) ≡ f n) → (o : Option Number) → (number_or (option_map capped o) >>= f) ≡ (number_or o >>= f)
-capped_or f same None = refl
-capped_or f same (Some n) = same n
-
 pub signed_capped : (low high : ℕ) (n : Number) → low < 2 ^ 31 → high < 2 ^ 31 → signed low high (capped n) ≡ signed low high n
 signed_capped low high n l h = capped_same low high (signed low high) (omega arith) (omega arith) (λ m no. rw no refl) n
 
@@ -45,3 +41,12 @@ unsigned_capped high n h = capped_same 0 high (unsigned high) (omega arith) (ome
 
 pub word_capped : (n : Number) → word (capped n) ≡ word n
 word_capped n = capped_same (2 ^ 31) (2 ^ 32 - 1) word (omega arith) (omega arith) (λ m no. rw no refl) n
+
+-- what was read of a number says what the number is
+pub number_read : {X : Type 0} (f : Number → Result X Why) (other : Result X Why) (o : Option Number) (n : Number) → Some n ≡ option_map capped o → ((m : Number) → f (capped m) ≡ f m) → f n ≡ number_else o f other
+number_read f other None n e same = absurd cc
+number_read f other (Some m) n e same = let n-is : n ≡ capped m = cc in ap f n-is ∙ same m
+
+pub none_read : {X : Type 0} (f : Number → Result X Why) (other : Result X Why) (o : Option Number) → None ≡ option_map capped o → other ≡ number_else o f other
+none_read f other None e = refl
+none_read f other (Some m) e = absurd cc

@@ -1,7 +1,5 @@
 -- An operand's text, from left to right, with the first fault that is met.
 use Rattle.std.specs.Prelude.{ℕ, ◌+◌, ◌-◌, ◌*◌, ◌%◌, ◌^◌, Bool, true, false, ℤ, pos, neg_ℤ, List, [], ◌∷◌, length, Option, Some, None, Result, Ok, Err, nat_le, ◌==◌, ◌&&◌, if◌then◌else◌}
-use Rattle.std.specs.Option.{option_copied}
-use Rattle.std.specs.Borrow.{Bor}
 use Rattle.rv_text.specs.declared.numbers.Number.{Number}
 use Rattle.rv_text.specs.Cuts.{cut}
 use Rattle.rv_text.specs.Reading.{number_of, register_of, is_label}
@@ -23,10 +21,6 @@ unfoldable pub register : List ℕ → Result ℕ Why
 register text = register_or (register_of text) text
 
 -- ---- numbers
-
-abbrev pub number_or : Option Number → Result Number Why
-number_or (Some n) = Ok n
-number_or None = Err Word
 
 -- a number from minus the first bound to the second
 abbrev pub is_within : ℕ → ℕ → Number → Bool
@@ -58,14 +52,6 @@ place_or None = Err Label
 abbrev pub named_place : (List ℕ → Option ℕ) → List ℕ → Result ℕ Why
 named_place places text = if is_label text then place_or (places text) else Err Word
 
-abbrev pub label_or : Option Number → List ℕ → (List ℕ → Option ℕ) → (ℕ → Number) → Result Number Why
-label_or (Some n) text places at = Ok n
-label_or None text places at = named_place places text >>= λ place. Ok (at place)
-
--- a number, or a label's place as a number
-abbrev pub labelled : (ℕ → Number) → (List ℕ → Option ℕ) → List ℕ → Result Number Why
-labelled at places text = label_or (number_of text) text places at
-
 -- the bytes from the word at `here` to the word at `place`
 abbrev pub distance : ℕ → ℕ → Number
 distance here place = if nat_le here place then record { negative = false; magnitude = 4 * (place - here) } else record { negative = true; magnitude = 4 * (here - place) }
@@ -89,20 +75,32 @@ bracketed (Some text) = register (cut 41 text).before >>= λ r. closed (cut 41 t
 
 -- ---- operands
 
+-- what a number gives, or what else the text gives
+abbrev pub number_else : {X : Type 0} → Option Number → (Number → Result X Why) → Result X Why → Result X Why
+number_else (Some n) f other = f n
+number_else None f other = other
+
+-- a label, or an even distance
+unfoldable pub label_target : (List ℕ → Option ℕ) → ℕ → ℕ → ℕ → List ℕ → Result ℤ Why
+label_target places here low high text = named_place places text >>= λ place. even low high (distance here place)
+
 unfoldable pub target : (List ℕ → Option ℕ) → ℕ → ℕ → ℕ → List ℕ → Result ℤ Why
-target places here low high text = labelled (distance here) places text >>= even low high
+target places here low high text = number_else (number_of text) (even low high) (label_target places here low high text)
 
 unfoldable pub signed_number : ℕ → ℕ → List ℕ → Result ℤ Why
-signed_number low high text = number_or (number_of text) >>= signed low high
+signed_number low high text = number_else (number_of text) (signed low high) (Err Word)
 
 unfoldable pub unsigned_number : ℕ → List ℕ → Result ℕ Why
-unsigned_number high text = number_or (number_of text) >>= unsigned high
+unsigned_number high text = number_else (number_of text) (unsigned high) (Err Word)
 
 unfoldable pub word_number : List ℕ → Result ℕ Why
-word_number text = number_or (number_of text) >>= word
+word_number text = number_else (number_of text) word (Err Word)
+
+unfoldable pub label_value : (List ℕ → Option ℕ) → List ℕ → Result ℕ Why
+label_value places text = named_place places text >>= λ place. word (address place)
 
 unfoldable pub word_value : (List ℕ → Option ℕ) → List ℕ → Result ℕ Why
-word_value places text = labelled address places text >>= word
+word_value places text = number_else (number_of text) word (label_value places text)
 
 -- a number, and a register in brackets
 unfoldable pub address_parts : List ℕ → Result (ℤ × ℕ) Why
@@ -135,15 +133,22 @@ behind_comma None = Ok None
 behind_comma (Some []) = Err Word
 behind_comma (Some (c ∷ cs)) = if c == 32 then Ok (Some cs) else Err Word
 
+-- an operand, and what stands behind the comma after it
+unfoldable pub next_operand : (List ℕ → Option ℕ) → ℕ → Kind → Option (List ℕ) → Fields → Result (Fields × Option (List ℕ)) Why
+next_operand places here kind None f = Err Word
+next_operand places here kind (Some text) f =
+    operand places here kind (cut 44 text).before f >>= λ g. behind_comma (cut 44 text).after >>= λ rest. Ok (g, rest)
+
+abbrev pub finished : Option (List ℕ) → Fields → Result Fields Why
+finished None f = Ok f
+finished (Some _) f = Err Word
+
 -- the operands one after the other; one that is missing or left over stands at the end
 unfoldable pub operands : (List ℕ → Option ℕ) → ℕ → List Kind → Option (List ℕ) → Fields → Result Fields Why
-operands places here [] None f = Ok f
-operands places here [] (Some _) f = Err Word
-operands places here (kind ∷ more) None f = Err Word
-operands places here (kind ∷ more) (Some text) f =
-    operand places here kind (cut 44 text).before f >>= λ g. behind_comma (cut 44 text).after >>= λ rest. operands places here more rest g
+operands places here [] text f = finished text f
+operands places here (kind ∷ more) text f = next_operand places here kind text f >>= λ next. operands places here more next.1 next.0
 
--- what a text that is handed on points to
-abbrev pub copied : Result (Option (Bor (List ℕ))) Why → Result (Option (List ℕ)) Why
-copied (Ok text) = Ok (option_copied text)
-copied (Err why) = Err why
+-- what was read, as a clause sees it
+abbrev pub seen : {X Y : Type 0} → (X → Y) → Result X Why → Result Y Why
+seen view (Ok x) = Ok (view x)
+seen view (Err why) = Err why

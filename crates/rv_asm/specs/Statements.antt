@@ -20,13 +20,19 @@ abbrev pub row_of : (List ℕ → Option ℕ) → ℕ → Option Instr → Optio
 row_of places here None rest = Err Word
 row_of places here (Some row) rest = operands places here (form_of row).operands rest blank >>= λ f. Ok (Says (filled row f))
 
+abbrev pub data_of : (List ℕ → Option ℕ) → ℕ → Option (List ℕ) → Result Meaning Why
+data_of places here rest = operands places here (kinds.Word ∷ []) rest blank >>= λ f. Ok (Data f.wide)
+
+abbrev pub loads : (List ℕ → Option ℕ) → ℕ → Option (List ℕ) → Result Meaning Why
+loads places here rest = operands places here (kinds.Rd ∷ kinds.Value ∷ []) rest blank >>= λ f. Ok (Loads f.rd f.wide)
+
 -- a statement's name, and behind a blank its operands
 unfoldable pub statement : (List ℕ → Option ℕ) → ℕ → List ℕ → Result Meaning Why
 statement places here text =
     if bytes_eq (cut 32 text).before (codes ".word")
-    then (operands places here (kinds.Word ∷ []) (cut 32 text).after blank >>= λ f. Ok (Data f.wide))
+    then data_of places here (cut 32 text).after
     else (if bytes_eq (cut 32 text).before (codes "li")
-    then (operands places here (kinds.Rd ∷ kinds.Value ∷ []) (cut 32 text).after blank >>= λ f. Ok (Loads f.rd f.wide))
+    then loads places here (cut 32 text).after
     else row_of places here (named (cut 32 text).before) (cut 32 text).after)
 
 -- a number is the upper 20 bits of one word and a signed 12-bit number, modulo 2^32

@@ -1,6 +1,7 @@
 //! The assembler and the disassembler.
 #![tactic(auto)]
 
+mod examples;
 mod fault;
 mod forms;
 mod kinds;

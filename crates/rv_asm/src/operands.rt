@@ -2,9 +2,8 @@
 
 ghost use Rattle.std.specs.Prelude.{◌≡◌, ◌<◌, ◌≤◌, ◌^◌, ◌+◌, ◌*◌, map, Some, Option, List, ℕ, option_map, length, IfOk, Ok};
 ghost use Rattle.std.specs.Option.{option_copied};
-ghost use Rattle.rv_text.specs.Reading.{number_of, capped, limit};
 ghost use Rattle.rv_asm.specs.Lines.{place_of};
-ghost use Rattle.rv_asm.specs.Operands.{register, number_or, signed, even, unsigned, word, named_place, distance, address, closed, bracketed, target, signed_number, unsigned_number, word_number, word_value, base_register, address_parts, operand, behind_comma, operands, copied};
+ghost use Rattle.rv_asm.specs.Operands.{register, signed, even, unsigned, word, named_place, distance, address, closed, bracketed, target, label_target, signed_number, unsigned_number, word_number, word_value, label_value, base_register, address_parts, operand, behind_comma, next_operand, finished, operands, seen};
 
 use crate::fault::Why;
 use crate::kinds::{Fields, Kind};
@@ -12,7 +11,6 @@ use crate::lines::place_of;
 use rv_text::{Number, cut, is_label, read_number, read_register};
 
 /// Where a statement stands: among which lines, and how many words stand before it.
-#[derive(Clone, Copy)]
 pub struct Context<'a> {
     pub lines: &'a [&'a str],
     pub here: u64,
@@ -33,12 +31,6 @@ fn register(text: &[u8]) -> Result<u8, Why>
             }
         }
     }
-}
-
-fn number(text: &[u8]) -> Result<Number, Why>
-    ensures { result ≡ number_or (option_map capped (number_of text.now)) }
-{
-    read_number(text).ok_or(Why::Word)
 }
 
 fn signed(low: u64, high: u64, number: Number) -> Result<i32, Why>
@@ -72,7 +64,8 @@ fn even(low: u64, high: u64, number: Number) -> Result<i32, Why>
 }
 
 fn unsigned(high: u32, number: Number) -> Result<u32, Why>
-    ensures { result ≡ unsigned high number }
+    ensures exact { result ≡ unsigned high number }
+    ensures within { IfOk result (λ n. n ≤ high) }
 {
     let bound = if number.negative { 0 } else { high as u64 };
     if number.magnitude > bound {
@@ -100,8 +93,8 @@ fn word(number: Number) -> Result<u32, Why>
     })
 }
 
-fn named_place(context: Context<'_>, text: &[u8]) -> Result<u64, Why>
-    ensures place { result ≡ named_place (place_of (map (λ line. line.now) context.lines.now)) text.now }
+fn named_place(context: &Context<'_>, text: &[u8]) -> Result<u64, Why>
+    ensures place { result ≡ named_place (place_of (map (λ line. line.now) context.now.lines.now)) text.now }
     ensures small { IfOk result (λ place. place < 2 ^ 61) }
 {
     if is_label(text) {
@@ -161,54 +154,72 @@ fn bracketed(text: Option<&[u8]>) -> Result<u8, Why>
     }
 }
 
-#[tactic(auto, using(crate::proofs::OperandLemmas::even_capped), unfolding(crate::specs::Operands::target))]
-fn target(context: Context<'_>, low: u64, high: u64, text: &[u8]) -> Result<i32, Why>
+#[tactic(auto, unfolding(crate::specs::Operands::label_target))]
+fn label_target(context: &Context<'_>, low: u64, high: u64, text: &[u8]) -> Result<i32, Why>
     requires low { low < 2 ^ 31 }
     requires high { high < 2 ^ 31 }
-    ensures { result ≡ target (place_of (map (λ line. line.now) context.lines.now)) context.here low high text.now }
+    ensures { result ≡ label_target (place_of (map (λ line. line.now) context.now.lines.now)) context.now.here low high text.now }
 {
-    let number = match read_number(text) {
-        Some(number) => number,
-        None => distance(context.here, named_place(context, text)?),
-    };
-    even(low, high, number)
+    let place = named_place(context, text)?;
+    even(low, high, distance(context.here, place))
 }
 
-#[tactic(auto, using(crate::proofs::OperandLemmas::signed_capped), unfolding(crate::specs::Operands::signed_number))]
+fn target(context: &Context<'_>, low: u64, high: u64, text: &[u8]) -> Result<i32, Why>
+    requires low { low < 2 ^ 31 }
+    requires high { high < 2 ^ 31 }
+    ensures { result ≡ target (place_of (map (λ line. line.now) context.now.lines.now)) context.now.here low high text.now }
+{
+    match read_number(text) {
+        Some(number) => even(low, high, number),
+        None => label_target(context, low, high, text),
+    }
+}
+
 fn signed_number(low: u64, high: u64, text: &[u8]) -> Result<i32, Why>
     requires low { low < 2 ^ 31 }
     requires high { high < 2 ^ 31 }
     ensures { result ≡ signed_number low high text.now }
 {
-    let number = number(text)?;
-    signed(low, high, number)
+    match read_number(text) {
+        Some(number) => signed(low, high, number),
+        None => Err(Why::Word),
+    }
 }
 
-#[tactic(auto, using(crate::proofs::OperandLemmas::unsigned_capped), unfolding(crate::specs::Operands::unsigned_number))]
 fn unsigned_number(high: u32, text: &[u8]) -> Result<u32, Why>
-    ensures { result ≡ unsigned_number high text.now }
+    ensures exact { result ≡ unsigned_number high text.now }
+    ensures within { IfOk result (λ n. n ≤ high) }
 {
-    let number = number(text)?;
-    unsigned(high, number)
+    match read_number(text) {
+        Some(number) => unsigned(high, number),
+        None => Err(Why::Word),
+    }
 }
 
-#[tactic(auto, using(crate::proofs::OperandLemmas::word_capped), unfolding(crate::specs::Operands::word_number))]
 fn word_number(text: &[u8]) -> Result<u32, Why>
     ensures { result ≡ word_number text.now }
 {
-    let number = number(text)?;
-    word(number)
+    match read_number(text) {
+        Some(number) => word(number),
+        None => Err(Why::Word),
+    }
 }
 
-#[tactic(auto, using(crate::proofs::OperandLemmas::word_capped), unfolding(crate::specs::Operands::word_value))]
-fn word_value(context: Context<'_>, text: &[u8]) -> Result<u32, Why>
-    ensures { result ≡ word_value (place_of (map (λ line. line.now) context.lines.now)) text.now }
+#[tactic(auto, unfolding(crate::specs::Operands::label_value))]
+fn label_value(context: &Context<'_>, text: &[u8]) -> Result<u32, Why>
+    ensures { result ≡ label_value (place_of (map (λ line. line.now) context.now.lines.now)) text.now }
 {
-    let number = match read_number(text) {
-        Some(number) => number,
-        None => address(named_place(context, text)?),
-    };
-    word(number)
+    let place = named_place(context, text)?;
+    word(address(place))
+}
+
+fn word_value(context: &Context<'_>, text: &[u8]) -> Result<u32, Why>
+    ensures { result ≡ word_value (place_of (map (λ line. line.now) context.now.lines.now)) text.now }
+{
+    match read_number(text) {
+        Some(number) => word(number),
+        None => label_value(context, text),
+    }
 }
 
 #[tactic(auto, unfolding(crate::specs::Operands::base_register))]
@@ -233,8 +244,8 @@ fn address_parts(text: &[u8]) -> Result<(i32, u8), Why>
 }
 
 #[tactic(auto, unfolding(crate::specs::Operands::operand))]
-fn operand(context: Context<'_>, kind: Kind, text: &[u8], fields: Fields) -> Result<Fields, Why>
-    ensures { result ≡ operand (place_of (map (λ line. line.now) context.lines.now)) context.here kind text.now fields }
+fn operand(context: &Context<'_>, kind: Kind, text: &[u8], fields: Fields) -> Result<Fields, Why>
+    ensures { result ≡ operand (place_of (map (λ line. line.now) context.now.lines.now)) context.now.here kind text.now fields }
 {
     let mut fields = fields;
     match kind {
@@ -257,11 +268,60 @@ fn operand(context: Context<'_>, kind: Kind, text: &[u8], fields: Fields) -> Res
 }
 
 fn behind_comma(text: Option<&[u8]>) -> Result<Option<&[u8]>, Why>
-    ensures { copied result ≡ behind_comma (option_copied text.entry) }
+    ensures { seen option_copied result ≡ behind_comma (option_copied text.entry) }
 {
     match text {
         None => Ok(None),
         Some([b' ', rest @ ..]) => Ok(Some(rest)),
         Some(_) => Err(Why::Word),
+    }
+}
+
+#[tactic(auto, unfolding(crate::specs::Operands::next_operand))]
+fn next_operand<'a>(
+    context: &Context<'_>,
+    kind: Kind,
+    text: Option<&'a [u8]>,
+    fields: Fields,
+) -> Result<(Fields, Option<&'a [u8]>), Why>
+    ensures { seen (λ next. (next.0, option_copied next.1)) result
+        ≡ next_operand (place_of (map (λ line. line.now) context.now.lines.now)) context.now.here kind (option_copied text.entry) fields }
+{
+    match text {
+        None => Err(Why::Word),
+        Some(text) => {
+            let (piece, after) = cut(text, b',');
+            let fields = operand(context, kind, piece, fields)?;
+            let rest = behind_comma(after)?;
+            Ok((fields, rest))
+        }
+    }
+}
+
+fn finished(text: Option<&[u8]>, fields: Fields) -> Result<Fields, Why>
+    ensures { result ≡ finished (option_copied text.entry) fields }
+{
+    match text {
+        None => Ok(fields),
+        Some(_) => Err(Why::Word),
+    }
+}
+
+/// The values of operands of these kinds, beginning with the values given.
+#[tactic(auto, unfolding(crate::specs::Operands::operands))]
+pub fn operands(
+    context: &Context<'_>,
+    kinds: &[Kind],
+    text: Option<&[u8]>,
+    fields: Fields,
+) -> Result<Fields, Why>
+    ensures { result ≡ operands (place_of (map (λ line. line.now) context.now.lines.now)) context.now.here kinds.now (option_copied text.entry) fields }
+{
+    match kinds {
+        [] => finished(text, fields),
+        [kind, more @ ..] => {
+            let (fields, rest) = next_operand(context, *kind, text, fields)?;
+            operands(context, more, rest, fields)
+        }
     }
 }
