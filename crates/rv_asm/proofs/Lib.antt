@@ -1,3 +1,11 @@
+pub mod DigitLemmas
 pub mod FormLemmas
+pub mod FoundLemmas
+pub mod JoinLemmas
+pub mod LawLemmas
 pub mod LineLemmas
 pub mod OperandLemmas
+pub mod ProgramLemmas
+pub mod RangeLemmas
+pub mod SaidLemmas
+pub mod TextLemmas

@@ -1,8 +1,10 @@
 -- What a statement says, and the words that say it.
-use Rattle.std.specs.Prelude.{◌≡◌, ℕ, ◌+◌, ◌-◌, ◌*◌, ◌/◌, ◌%◌, ◌^◌, ℤ, List, [], ◌∷◌, Option, Some, None, Result, Ok, Err, codes, if◌then◌else◌}
+use Rattle.std.specs.Prelude.{◌≡◌, ℕ, ◌+◌, ◌-◌, ◌*◌, ◌/◌, ◌%◌, ◌^◌, ◌<◌, ℤ, List, [], ◌∷◌, ◌++◌, Option, Some, None, Result, Ok, Err, codes, if◌then◌else◌}
+use Rattle.std.specs.List.{flat_map}
+use Rattle.std.specs.Int.{w32, to_le_bytes}
 use Rattle.std.specs.Str.{bytes_eq}
 use Rattle.rv_isa.specs.Fields.{signed}
-use Rattle.rv_isa.specs.Table.{decoded}
+use Rattle.rv_isa.specs.Table.{decoded, IsSpelled}
 use Rattle.rv_isa.specs.declared.instr.Instr.{Instr}
 use Rattle.rv_isa.specs.declared.instr.Instr.TheVariants.{Lui, Addi}
 use Rattle.rv_text.specs.Cuts.{cut}
@@ -47,4 +49,14 @@ abbrev pub AreWords : Meaning → List ℕ → Type 0
 AreWords (Data word) words = words ≡ word ∷ []
 AreWords (Says instr) words = (word : ℕ) × (decoded word ≡ Some instr) × (words ≡ word ∷ [])
 AreWords (Loads rd value) words =
-    (first second : ℕ) × (decoded first ≡ Some (Lui rd (upper_part value))) × (decoded second ≡ Some (Addi rd rd (lower_part value))) × (words ≡ first ∷ second ∷ [])
+    (first : ℕ) × (second : ℕ) × (decoded first ≡ Some (Lui rd (upper_part value))) × (decoded second ≡ Some (Addi rd rd (lower_part value))) × (words ≡ first ∷ second ∷ [])
+
+-- some word says it
+abbrev pub IsSaid : Meaning → Type 0
+IsSaid (Data word) = Unit {0}
+IsSaid (Says instr) = IsSpelled instr
+IsSaid (Loads rd value) = rd < 32
+
+-- the bytes with those of the statement's words behind them, each little-endian
+abbrev pub Writes : List ℕ → List ℕ → Meaning → Type 0
+Writes old new meaning = (words : List ℕ) × AreWords meaning words × (new ≡ old ++ flat_map (to_le_bytes w32) words)

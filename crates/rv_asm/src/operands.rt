@@ -11,6 +11,7 @@ use crate::lines::place_of;
 use rv_text::{Number, cut, is_label, read_number, read_register};
 
 /// Where a statement stands: among which lines, and how many words stand before it.
+#[derive(Drop)]
 pub struct Context<'a> {
     pub lines: &'a [&'a str],
     pub here: u64,
