@@ -1,5 +1,5 @@
 -- Numbers that are written are read again.
-use Rattle.std.proofs.Common.{◌≡◌, ℕ, zero, suc, ◌+◌, ◌-◌, ◌*◌, ◌/◌, ◌%◌, ◌^◌, ◌<◌, ◌≤◌, Bool, true, false, cond, ◌&&◌, not, List, [], ◌∷◌, ◌++◌, length, get_or, map, take, drop, Option, Some, None, eqb, ltb, refl, sym, ap, ◌∙◌, inl, inr, arith}
+use Rattle.std.proofs.Common.{◌≡◌, ℕ, zero, suc, ◌+◌, ◌-◌, ◌*◌, ◌/◌, ◌%◌, ◌^◌, ◌<◌, ◌≤◌, Bool, true, false, cond, ◌&&◌, ◌||◌, not, List, [], ◌∷◌, ◌++◌, length, get_or, map, take, drop, Option, Some, None, eqb, ltb, refl, sym, ap, ◌∙◌, inl, inr, arith}
 use Rattle.std.specs.Prelude.{slice_index}
 use Rattle.std.specs.Char.{digit_value, is_digit}
 use Rattle.std.specs.List.{list_all, AllByRecursion}
@@ -55,7 +55,7 @@ pub record IsWritten (base n : ℕ) : Type 0 where
   pub value : digits_value base (numeral base n) ≡ n
   pub tight : (get_or (numeral base n) 0 0 ≡ 48 → ⊥) × (0 < n)
 
-numeral_zero : (base : ℕ) → numeral base 0 ≡ 48 ∷ []
+pub numeral_zero : (base : ℕ) → numeral base 0 ≡ 48 ∷ []
 unfolding numeral
 numeral_zero base = refl
 
@@ -82,7 +82,7 @@ numeral_digits base n two small =
       | inr none ↦ let e : n ≡ 0 = omega arith in rw (e, numeral_zero base, lt-ltb 0 base (omega arith)) refl
     ]
 
-either : (b : Bool) (n : ℕ) → cond (cond b true true) (Some n) None ≡ Some n
+either : (b : Bool) (n : ℕ) → cond (b || true) (Some n) None ≡ Some n
 either true n = refl
 either false n = refl
 

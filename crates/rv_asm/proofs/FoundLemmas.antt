@@ -234,7 +234,7 @@ next_found places here kind text f n e =
     let a = bind_ok (operand places here kind (cut 44 text).before f) (λ g. behind_comma (cut 44 text).after >>= λ rest. Ok (g, rest)) n e in
     let b = bind_ok (behind_comma (cut 44 text).after) (λ rest. Ok (a.0, rest)) n a.2 in
     let same : (a.0, b.0) ≡ n = ok_is (a.0, b.0) n b.2 in
-    (a.1 ∙ ap (λ (q : Fields × Option (List ℕ)). Ok q.0) same, b.1 ∙ ap (λ (q : Fields × Option (List ℕ)). Ok q.1) same)
+    (a.1 ∙ ap (λ (q : Fields × Option (List ℕ)). done q.0) same, b.1 ∙ ap (λ (q : Fields × Option (List ℕ)). done q.1) same)
 
 some_rest : (places : List ℕ → Option ℕ) (here : ℕ) (kind : Kind) (more : List Kind) (rest : Option (List ℕ)) (f g : Fields) → operands places here (kind ∷ more) rest f ≡ Ok g → (text : List ℕ) × (rest ≡ Some text)
 unfolding operands next_operand
@@ -247,13 +247,13 @@ operands_found places here kind [] text f g P e after =
     let a = bind_ok (next_operand places here kind (Some text) f) (λ next. finished next.1 next.0) g e in
     let n = next_found places here kind text f a.0 a.1 in
     let d = finished_found a.0.1 a.0.0 g a.2 in
-    let whole = uncut 44 text (comma_none (cut 44 text).after (n.1 ∙ ap (λ (o : Option (List ℕ)). Ok o) d.0)) in
+    let whole = uncut 44 text (comma_none (cut 44 text).after (n.1 ∙ ap (λ (o : Option (List ℕ)). done o) d.0)) in
     subst P d.1 (operand_found places here kind text f a.0.0 P (ap (λ (t : List ℕ). operand places here kind t f) whole ∙ n.0) after)
 operands_found places here kind (next ∷ more) text f g P e after =
     let a = bind_ok (next_operand places here kind (Some text) f) (λ later. operands places here (next ∷ more) later.1 later.0) g e in
     let n = next_found places here kind text f a.0 a.1 in
     let r = some_rest places here next more a.0.1 a.0.0 g a.2 in
-    let parts = cut_in 44 text (32 ∷ r.0) (comma_some (cut 44 text).after r.0 (n.1 ∙ ap (λ (o : Option (List ℕ)). Ok o) r.1)) in
+    let parts = cut_in 44 text (32 ∷ r.0) (comma_some (cut 44 text).after r.0 (n.1 ∙ ap (λ (o : Option (List ℕ)). done o) r.1)) in
     let here_after : AfterTexts places here next more r.0 a.0.0 P = operand_found places here kind (cut 44 text).before f a.0.0 (λ h. AfterTexts places here next more r.0 h P) n.0 (after (cut 44 text).before r.0 parts) in
     operands_found places here next more r.0 a.0.0 g P (ap (λ (o : Option (List ℕ)). operands places here (next ∷ more) o a.0.0) (sym r.1) ∙ a.2) here_after
 

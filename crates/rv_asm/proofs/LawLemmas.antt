@@ -25,6 +25,7 @@ use Rattle.rv_asm.specs.Program.{lines_of, line_says, program_from, program, Ass
 use Rattle.rv_asm.specs.Statements.{statement}
 use Rattle.rv_asm.specs.Texts.{operand_texts, statement_text, form_text, data_text, text_by, text_of}
 use Rattle.rv_asm.proofs.FormLemmas.{all_taken, is_name_byte, Leads, leads}
+use Rattle.rv_asm.proofs.RangeLemmas.{done}
 use Rattle.rv_asm.proofs.TextLemmas.{is_operand_byte, cut_whole, cut_before, weaken, joined_all, AllInRange, operands_again, operand_texts_bytes}
 
 in_range : (i : Instr) → IsWithin i → AllInRange (form_of i).operands (form_of i).fields
@@ -141,11 +142,11 @@ both true b e = (refl, e)
 both false b e = absurd cc
 
 split_none : (P : ℕ → Bool) (xs : List ℕ) → list_all P xs ≡ true → P 10 ≡ false → slice_split (λ b. eqb b 10) xs ≡ xs ∷ []
-split_none P [] all no = refl
-split_none P (x ∷ xs) all no =
+split_none P [] all is_out = refl
+split_none P (x ∷ xs) all is_out =
     let b = both (P x) (list_all P xs) all in
     let other : (x ≡ 10 → ⊥) = λ e. let h : P 10 ≡ true = ap P (sym e) ∙ b.0 in cc in
-    rw (ne_eqb x 10 other, split_none P xs b.1 no) refl
+    rw (ne_eqb x 10 other, split_none P xs b.1 is_out) refl
 
 is_line_byte : ℕ → Bool
 is_line_byte c = is_name_byte c || (is_operand_byte c || (eqb c 44 || eqb c 32))
@@ -185,7 +186,7 @@ instr_program : (i : Instr) → has_statement i ≡ true → IsWithin i → prog
 instr_program i has w =
     let l = leads i has in
     program_of (form_of i).name (form_of i).operands (form_of i).fields (Says i) l.plain (ltb-true 0 (length (form_of i).name) l.some)
-    (λ places. statement_again places 0 l.example (form_of i).name (form_of i).operands (form_of i).fields l.plain l.not_data l.not_load l.found l.operands (in_range i w) ∙ ap (λ (j : Instr). Ok (Says j)) l.again)
+    (λ places. statement_again places 0 l.example (form_of i).name (form_of i).operands (form_of i).fields l.plain l.not_data l.not_load l.found l.operands (in_range i w) ∙ ap (λ (j : Instr). done (Says j)) l.again)
 
 data_program : (word : ℕ) → word < 2 ^ 32 → program (lines_of (data_text word)) ≡ Ok (Data word ∷ [])
 data_program word below = program_of (codes ".word") (kinds.Word ∷ []) (record blank { wide = word }) (Data word) refl (omega arith) (λ places. data_again places 0 word below)

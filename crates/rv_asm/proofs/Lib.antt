@@ -4,6 +4,9 @@ pub mod FoundLemmas
 pub mod JoinLemmas
 pub mod LawLemmas
 pub mod LineLemmas
+pub mod LoadLemmas
+pub mod NameLemmas
+pub mod OnlyLemmas
 pub mod OperandLemmas
 pub mod ProgramLemmas
 pub mod RangeLemmas

@@ -2,8 +2,7 @@
 use Rattle.std.proofs.Common.{◌≡◌, ℕ, zero, suc, ◌+◌, ◌<◌, ◌≤◌, List, [], ◌∷◌, ◌++◌, length, get_or, map, drop, Option, Some, None, Result, Ok, Err, Bor, add-one, append_assoc, refl, sym, ap, subst, ◌∙◌, arith}
 use Rattle.std.specs.List.{flat_map}
 use Rattle.std.specs.Int.{w32, to_le_bytes}
-use Rattle.std.proofs.Math.Seq.{drop-cons}
-use Rattle.std.proofs.lemmas.List.{append-nil, drop_all}
+use Rattle.std.proofs.lemmas.List.{append-nil}
 use Rattle.std.proofs.lemmas.Grind.{flat_map-append}
 use Rattle.rv_asm.specs.declared.fault.Why.{Why}
 use Rattle.rv_asm.specs.declared.fault.AsmFault.{AsmFault}
@@ -32,10 +31,21 @@ words_more (n ∷ meanings) words m first all one =
     (all.0, all.1 ++ first, all.2, words_more meanings all.1 m first all.3 one, rw all.4 (append_assoc all.0 all.1 first))
 
 -- one line more
-at_line : (lines : List (List ℕ)) (i here : ℕ) (d : List ℕ) → i < length lines
-    → program_from lines (drop i lines) i here ≡ said (line_says lines i here (get_or lines i d)) (i + 1) (program_from lines (drop (suc i) lines) (i + 1) (here + word_count (line_of (get_or lines i d)).statement))
+at_line : (lines : List (List ℕ)) (i here : ℕ) (text : List ℕ) → drop i lines ≡ text ∷ drop (suc i) lines
+    → program_from lines (drop i lines) i here ≡ said (line_says lines i here text) (i + 1) (program_from lines (drop (suc i) lines) (i + 1) (here + word_count (line_of text).statement))
 unfolding program_from
-at_line lines i here d inside = rw (drop-cons lines i d inside) refl
+at_line lines i here text cons = rw cons refl
+
+pub line_at : (lines : List (Bor (List ℕ))) (i : ℕ) (d : Bor (List ℕ)) → i < length lines → drop i (map (λ line. line.now) lines) ≡ (get_or lines i d).now ∷ drop (suc i) (map (λ line. line.now) lines)
+line_at [] i d inside = absurd (omega arith)
+line_at (line ∷ lines) zero d inside = refl
+line_at (line ∷ lines) (suc i) d inside = line_at lines i d (omega arith)
+
+pub line_end : (lines : List (Bor (List ℕ))) (i : ℕ) → length lines ≤ i → drop i (map (λ line. line.now) lines) ≡ []
+line_end [] zero past = refl
+line_end [] (suc i) past = refl
+line_end (line ∷ lines) zero past = absurd (omega arith)
+line_end (line ∷ lines) (suc i) past = line_end lines i (omega arith)
 
 pub read_none : (lines : List (List ℕ)) → HasRead lines 0 0 []
 unfolding program
@@ -52,22 +62,22 @@ by_said (Some m) total later line before words old new e all bytes writes = (
   writes.2 ∙ (ap (λ (x : List ℕ). x ++ bytes_of writes.0) bytes ∙ sym (flat_map-append (to_le_bytes w32) words writes.0)),
 )
 
-pub read_more : (lines : List (List ℕ)) (i here : ℕ) (d old new : List ℕ) → i < length lines → WritesLine lines i here (get_or lines i d) old new → HasRead lines i here old → HasRead lines (i + 1) (here + word_count (line_of (get_or lines i d)).statement) new
-read_more lines i here d old new inside line read =
-    let later = program_from lines (drop (suc i) lines) (i + 1) (here + word_count (line_of (get_or lines i d)).statement) in
-    let here_said : with_before read.0 (said (Ok line.0) (i + 1) later) ≡ program lines = ap (λ (r : Result (Option Meaning) Why). with_before read.0 (said r (i + 1) later)) (sym line.1) ∙ (ap (λ (r : Result (List Meaning) Bad). with_before read.0 r) (sym (at_line lines i here d inside)) ∙ read.2) in
+pub read_more : (lines : List (List ℕ)) (i here : ℕ) (text old new : List ℕ) → drop i lines ≡ text ∷ drop (suc i) lines → WritesLine lines i here text old new → HasRead lines i here old → HasRead lines (i + 1) (here + word_count (line_of text).statement) new
+read_more lines i here text old new cons line read =
+    let later = program_from lines (drop (suc i) lines) (i + 1) (here + word_count (line_of text).statement) in
+    let here_said : with_before read.0 (said (Ok line.0) (i + 1) later) ≡ program lines = ap (λ (r : Result (Option Meaning) Why). with_before read.0 (said r (i + 1) later)) (sym line.1) ∙ (ap (λ (r : Result (List Meaning) Bad). with_before read.0 r) (sym (at_line lines i here text cons)) ∙ read.2) in
     let h = by_said line.0 (program lines) later (i + 1) read.0 read.1 old new here_said read.3 read.4 line.2 in
-    (h.0, h.1, ap (λ (n : ℕ). with_before h.0 (program_from lines (drop n lines) (i + 1) (here + word_count (line_of (get_or lines i d)).statement))) (sym (add-one i)) ∙ h.2, h.3, h.4)
+    (h.0, h.1, ap (λ (n : ℕ). with_before h.0 (program_from lines (drop n lines) (i + 1) (here + word_count (line_of text).statement))) (add-one i) ∙ h.2, h.3, h.4)
 
 -- a bad line is the first
-pub read_fault : (lines : List (List ℕ)) (i here : ℕ) (d old : List ℕ) (fault : AsmFault) → i < length lines → IsLineFault lines i here (get_or lines i d) fault → HasRead lines i here old → HaveFault lines fault
-read_fault lines i here d old faults.NoMemory inside bad read = tt
-read_fault lines i here d old (faults.Line line why) inside bad read =
-    let later = program_from lines (drop (suc i) lines) (i + 1) (here + word_count (line_of (get_or lines i d)).statement) in
-    sym read.2 ∙ (ap (λ (r : Result (List Meaning) Bad). with_before read.0 r) (at_line lines i here d inside) ∙ (ap (λ (r : Result (Option Meaning) Why). with_before read.0 (said r (i + 1) later)) bad.0 ∙ ap (λ (n : ℕ). with_before [] (Err (record { line = n; why = why }))) (sym bad.1)))
+pub read_fault : (lines : List (List ℕ)) (i here : ℕ) (text old : List ℕ) (fault : AsmFault) → drop i lines ≡ text ∷ drop (suc i) lines → IsLineFault lines i here text fault → HasRead lines i here old → HaveFault lines fault
+read_fault lines i here text old faults.NoMemory cons bad read = tt
+read_fault lines i here text old (faults.Line line why) cons bad read =
+    let later = program_from lines (drop (suc i) lines) (i + 1) (here + word_count (line_of text).statement) in
+    sym read.2 ∙ (ap (λ (r : Result (List Meaning) Bad). with_before read.0 r) (at_line lines i here text cons) ∙ (ap (λ (r : Result (Option Meaning) Why). with_before read.0 (said r (i + 1) later)) bad.0 ∙ ap (λ (n : ℕ). with_before [] (Err (record { line = n; why = why }))) (sym bad.1)))
 
 -- all lines were read
-pub read_all : (lines : List (List ℕ)) (i here : ℕ) (bytes : List ℕ) → length lines ≤ i → HasRead lines i here bytes → HaveBytes lines bytes
+pub read_all : (lines : List (List ℕ)) (i here : ℕ) (bytes : List ℕ) → drop i lines ≡ [] → HasRead lines i here bytes → HaveBytes lines bytes
 unfolding program_from
-read_all lines i here bytes past read =
-    (read.1, (read.0, sym read.2 ∙ rw (drop_all i lines past) (ap (λ (ms : List Meaning). Ok ms) (append-nil read.0)), read.3), read.4)
+read_all lines i here bytes none read =
+    (read.1, (read.0, sym read.2 ∙ rw none (ap (λ (ms : List Meaning). Ok ms) (append-nil read.0)), read.3), read.4)

@@ -20,17 +20,17 @@ pub bind_ok : {A B : Type 0} (r : Result A Why) (f : A → Result B Why) (y : B)
 bind_ok (Ok x) f y e = (x, refl, e)
 bind_ok (Err why) f y e = absurd cc
 
-abbrev done : {A : Type 0} → A → Result A Why
+abbrev pub done : {A : Type 0} → A → Result A Why
 done x = Ok x
 
 pub ok_is : {A : Type 0} (x y : A) → done x ≡ done y → x ≡ y
 ok_is x y e = cc
 
-guard_ok : {A : Type 0} (b : Bool) (why : Why) (x y : A) → cond b (Ok x) (Err why) ≡ Ok y → (b ≡ true) × (x ≡ y)
+pub guard_ok : {A : Type 0} (b : Bool) (why : Why) (x y : A) → cond b (Ok x) (Err why) ≡ Ok y → (b ≡ true) × (x ≡ y)
 guard_ok true why x y e = (refl, cc)
 guard_ok false why x y e = absurd cc
 
-both : (a b : Bool) → (a && b) ≡ true → (a ≡ true) × (b ≡ true)
+pub both : (a b : Bool) → (a && b) ≡ true → (a ≡ true) × (b ≡ true)
 both true b e = (refl, e)
 both false b e = absurd cc
 
@@ -81,7 +81,7 @@ register_of_range text n e =
     (λ m h. argument_range (below 8 (decimal_of (drop 1 text))) m (λ k g. below_range 8 (decimal_of (drop 1 text)) k g) h)
     e
 
-register_or_ok : (o : Option ℕ) (text : List ℕ) (r : ℕ) → register_or o text ≡ Ok r → o ≡ Some r
+pub register_or_ok : (o : Option ℕ) (text : List ℕ) (r : ℕ) → register_or o text ≡ Ok r → o ≡ Some r
 register_or_ok None text r e = absurd cc
 register_or_ok (Some x) text r e = cc
 
@@ -169,7 +169,7 @@ address_range text p e =
 
 -- ---- operands
 
-step_by : {X : Type 0} (r : Result X Why) (make : X → Fields) (g : Fields) (P : Fields → Type 0) (In : X → Type 0) → ((x : X) → r ≡ Ok x → In x) → ((x : X) → In x → P (make x)) → (r >>= λ x. Ok (make x)) ≡ Ok g → P g
+pub step_by : {X : Type 0} (r : Result X Why) (make : X → Fields) (g : Fields) (P : Fields → Type 0) (In : X → Type 0) → ((x : X) → r ≡ Ok x → In x) → ((x : X) → In x → P (make x)) → (r >>= λ x. Ok (make x)) ≡ Ok g → P g
 step_by (Ok x) make g P In range step e = subst P (ok_is (make x) g e) (step x (range x refl))
 step_by (Err why) make g P In range step e = absurd cc
 

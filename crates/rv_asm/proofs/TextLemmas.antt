@@ -15,7 +15,8 @@ use Rattle.rv_asm.specs.declared.fault.Why.{Why}
 use Rattle.rv_asm.specs.declared.kinds.Fields.{Fields}
 use Rattle.rv_asm.specs.declared.kinds.Kind.{Kind}
 use Rattle.rv_asm.specs.declared.kinds.Kind.TheVariants as kinds
-use Rattle.rv_asm.specs.Operands.{register, signed_number, unsigned_number, target, word_number, word_value, base_register, address_parts, bracketed, operand, behind_comma, next_operand, operands}
+use Rattle.rv_asm.specs.Faults.{◌>>=◌}
+use Rattle.rv_asm.specs.Operands.{register, signed_number, unsigned_number, target, word_number, word_value, base_register, address_parts, bracketed, closed, operand, behind_comma, next_operand, operands}
 use Rattle.rv_asm.specs.Texts.{register_text, signed_text, upper_text, bracket_text, operand_text, operand_texts}
 use Rattle.rv_asm.proofs.DigitLemmas.{numeral_digits, numeral_written, numeral_zero, decimal_again, hexadecimal_again, last_digits_are, word_again}
 use Rattle.rv_asm.proofs.FormLemmas.{taken, all_taken}
@@ -27,20 +28,20 @@ both true b e = (refl, e)
 both false b e = absurd cc
 
 other_byte : (P : ℕ → Bool) (x c : ℕ) → P x ≡ true → P c ≡ false → x ≡ c → ⊥
-other_byte P x c yes no e = let h : P c ≡ true = ap P (sym e) ∙ yes in cc
+other_byte P x c is_in is_out e = let h : P c ≡ true = ap P (sym e) ∙ is_in in cc
 
 -- a byte that isn't among them cuts nothing off
 pub cut_whole : (P : ℕ → Bool) (c : ℕ) (xs : List ℕ) → list_all P xs ≡ true → P c ≡ false → cut c xs ≡ record { before = xs; after = None }
-cut_whole P c [] all no = refl
-cut_whole P c (x ∷ xs) all no =
+cut_whole P c [] all is_out = refl
+cut_whole P c (x ∷ xs) all is_out =
     let b = both (P x) (list_all P xs) all in
-    rw (ne_eqb x c (other_byte P x c b.0 no), cut_whole P c xs b.1 no) refl
+    rw (ne_eqb x c (other_byte P x c b.0 is_out), cut_whole P c xs b.1 is_out) refl
 
 pub cut_before : (P : ℕ → Bool) (c : ℕ) (xs rest : List ℕ) → list_all P xs ≡ true → P c ≡ false → cut c (xs ++ c ∷ rest) ≡ record { before = xs; after = Some rest }
-cut_before P c [] rest all no = rw (eq-eqb c c refl) refl
-cut_before P c (x ∷ xs) rest all no =
+cut_before P c [] rest all is_out = rw (eq-eqb c c refl) refl
+cut_before P c (x ∷ xs) rest all is_out =
     let b = both (P x) (list_all P xs) all in
-    rw (ne_eqb x c (other_byte P x c b.0 no), cut_before P c xs rest b.1 no) refl
+    rw (ne_eqb x c (other_byte P x c b.0 is_out), cut_before P c xs rest b.1 is_out) refl
 
 pub weaken : (P Q : ℕ → Bool) (xs : List ℕ) → ((b : ℕ) → P b ≡ true → Q b ≡ true) → list_all P xs ≡ true → list_all Q xs ≡ true
 weaken P Q [] more all = refl
@@ -116,7 +117,7 @@ number_decimal n =
       | inl some ↦
           let w = numeral_written 10 n (omega arith) (omega arith) some in
           let digit = first_byte (λ c. is_digit c 10) (numeral 10 n) w.some w.digits in
-          rw (ne_eqb (get_or (numeral 10 n) 0 0) 45 (not_minus (get_or (numeral 10 n) 0 0) digit), ne_eqb (get_or (numeral 10 n) 0 0) 48 w.tight.0, decimal_again n) refl
+          rw (decimal_again n, ne_eqb (get_or (numeral 10 n) 0 0) 45 (not_minus (get_or (numeral 10 n) 0 0) digit), ne_eqb (get_or (numeral 10 n) 0 0) 48 w.tight.0) refl
       | inr none ↦ let e : n ≡ 0 = omega arith in rw (e, numeral_zero 10) refl
     ]
 
@@ -161,10 +162,20 @@ word_value_again places n below = let le : n ≤ 4294967295 = omega arith in rw 
 register_only : (r : ℕ) → list_all (λ c. is_digit c 10 || eqb c 120) (register_text r) ≡ true
 register_only r = weaken (λ c. is_digit c 10) (λ c. is_digit c 10 || eqb c 120) (numeral 10 r) (λ b e. rw e refl) (numeral_digits 10 r (omega arith) (omega arith))
 
+abbrev pub pair_of : ℤ → ℕ → Result (ℤ × ℕ) Why
+pair_of z r = Ok (z, r)
+
+pub chain_two : (x : Result ℤ Why) (y : Result ℕ Why) (z : ℤ) (r : ℕ) → x ≡ Ok z → y ≡ Ok r → (x >>= λ a. y >>= λ b. pair_of a b) ≡ pair_of z r
+chain_two x y z r first second = rw (first, second) refl
+
+pub chain_closed : (x : Result ℕ Why) (rest : Option (List ℕ)) (r : ℕ) → x ≡ Ok r → rest ≡ Some [] → (x >>= λ s. closed rest s) ≡ Ok r
+chain_closed x rest r first second = rw (first, second) refl
+
 bracketed_again : (r : ℕ) → r < 32 → bracketed (Some (register_text r ++ codes ")")) ≡ Ok r
 bracketed_again r small =
     let parts = cut_before (λ c. is_digit c 10 || eqb c 120) 41 (register_text r) [] (register_only r) refl in
-    rw (parts, register_again r small) refl
+    chain_closed (register (cut 41 (register_text r ++ codes ")")).before) (cut 41 (register_text r ++ codes ")")).after r
+    (ap (λ (h : Halves). register h.before) parts ∙ register_again r small) (ap (λ (h : Halves). h.after) parts)
 
 signed_only : (z : ℤ) → list_all (λ c. is_digit c 10 || eqb c 45) (signed_text z) ≡ true
 signed_only (pos n) = weaken (λ c. is_digit c 10) (λ c. is_digit c 10 || eqb c 45) (numeral 10 n) (λ b e. rw e refl) (numeral_digits 10 n (omega arith) (omega arith))
@@ -178,7 +189,9 @@ address_again : (z : ℤ) (r : ℕ) → IsSigned 12 z → r < 32 → address_par
 unfolding address_parts
 address_again z r h small =
     let parts = cut_before (λ c. is_digit c 10 || eqb c 45) 40 (signed_text z) (register_text r ++ codes ")") (signed_only z) refl in
-    rw (parts, signed_again z h, bracketed_again r small) refl
+    chain_two (signed_number 2048 2047 (cut 40 (signed_text z ++ bracket_text r)).before) (bracketed (cut 40 (signed_text z ++ bracket_text r)).after) z r
+    (ap (λ (q : Halves). signed_number 2048 2047 q.before) parts ∙ signed_again z h)
+    (ap (λ (q : Halves). bracketed q.after) parts ∙ bracketed_again r small)
 
 -- ---- operands
 

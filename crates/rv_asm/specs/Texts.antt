@@ -42,12 +42,12 @@ operand_text kinds.Value f = codes "0x" ++ last_digits 8 f.wide
 -- the operands, a comma and a blank between them
 unfoldable pub operand_texts : Kind → List Kind → Fields → List ℕ
 operand_texts kind [] f = operand_text kind f
-operand_texts kind (next ∷ more) f = operand_text kind f ++ codes ", " ++ operand_texts next more f
+operand_texts kind (next ∷ more) f = operand_text kind f ++ (codes ", " ++ operand_texts next more f)
 
 -- a name, and behind a blank its operands
 unfoldable pub statement_text : List ℕ → List Kind → Fields → List ℕ
 statement_text name [] f = name
-statement_text name (kind ∷ more) f = name ++ codes " " ++ operand_texts kind more f
+statement_text name (kind ∷ more) f = name ++ (codes " " ++ operand_texts kind more f)
 
 -- the word as a number
 abbrev pub data_text : ℕ → List ℕ

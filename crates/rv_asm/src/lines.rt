@@ -58,6 +58,14 @@ pub fn word_count(statement: Option<&[u8]>) -> u64
     }
 }
 
+/// How many words the statement of a line's text stands for.
+pub fn count_of(text: &[u8]) -> u64
+    ensures count { result ≡ word_count (line_of text.now).statement }
+    ensures small { result ≤ 2 }
+{
+    word_count(line_of(text).statement)
+}
+
 fn is_named(label: Option<&[u8]>, name: &[u8]) -> bool
     ensures { result ≡ is_named (option_copied label.entry) name.now }
 {

@@ -12,8 +12,8 @@ use rv_text::{Number, cut, is_label, read_number, read_register};
 
 /// Where a statement stands: among which lines, and how many words stand before it.
 #[derive(Drop)]
-pub struct Context<'a> {
-    pub lines: &'a [&'a str],
+pub struct Context<'a, 't> {
+    pub lines: &'a [&'t str],
     pub here: u64,
     ghost small: { here < 2 ^ 61 },
 }
@@ -94,7 +94,7 @@ fn word(number: Number) -> Result<u32, Why>
     })
 }
 
-fn named_place(context: &Context<'_>, text: &[u8]) -> Result<u64, Why>
+fn named_place(context: &Context<'_, '_>, text: &[u8]) -> Result<u64, Why>
     ensures place { result ≡ named_place (place_of (map (λ line. line.now) context.now.lines.now)) text.now }
     ensures small { IfOk result (λ place. place < 2 ^ 61) }
 {
@@ -156,7 +156,7 @@ fn bracketed(text: Option<&[u8]>) -> Result<u8, Why>
 }
 
 #[tactic(auto, unfolding(crate::specs::Operands::label_target))]
-fn label_target(context: &Context<'_>, low: u64, high: u64, text: &[u8]) -> Result<i32, Why>
+fn label_target(context: &Context<'_, '_>, low: u64, high: u64, text: &[u8]) -> Result<i32, Why>
     requires low { low < 2 ^ 31 }
     requires high { high < 2 ^ 31 }
     ensures { result ≡ label_target (place_of (map (λ line. line.now) context.now.lines.now)) context.now.here low high text.now }
@@ -165,7 +165,7 @@ fn label_target(context: &Context<'_>, low: u64, high: u64, text: &[u8]) -> Resu
     even(low, high, distance(context.here, place))
 }
 
-fn target(context: &Context<'_>, low: u64, high: u64, text: &[u8]) -> Result<i32, Why>
+fn target(context: &Context<'_, '_>, low: u64, high: u64, text: &[u8]) -> Result<i32, Why>
     requires low { low < 2 ^ 31 }
     requires high { high < 2 ^ 31 }
     ensures { result ≡ target (place_of (map (λ line. line.now) context.now.lines.now)) context.now.here low high text.now }
@@ -207,14 +207,14 @@ fn word_number(text: &[u8]) -> Result<u32, Why>
 }
 
 #[tactic(auto, unfolding(crate::specs::Operands::label_value))]
-fn label_value(context: &Context<'_>, text: &[u8]) -> Result<u32, Why>
+fn label_value(context: &Context<'_, '_>, text: &[u8]) -> Result<u32, Why>
     ensures { result ≡ label_value (place_of (map (λ line. line.now) context.now.lines.now)) text.now }
 {
     let place = named_place(context, text)?;
     word(address(place))
 }
 
-fn word_value(context: &Context<'_>, text: &[u8]) -> Result<u32, Why>
+fn word_value(context: &Context<'_, '_>, text: &[u8]) -> Result<u32, Why>
     ensures { result ≡ word_value (place_of (map (λ line. line.now) context.now.lines.now)) text.now }
 {
     match read_number(text) {
@@ -245,7 +245,12 @@ fn address_parts(text: &[u8]) -> Result<(i32, u8), Why>
 }
 
 #[tactic(auto, unfolding(crate::specs::Operands::operand))]
-fn operand(context: &Context<'_>, kind: Kind, text: &[u8], fields: Fields) -> Result<Fields, Why>
+fn operand(
+    context: &Context<'_, '_>,
+    kind: Kind,
+    text: &[u8],
+    fields: Fields,
+) -> Result<Fields, Why>
     ensures { result ≡ operand (place_of (map (λ line. line.now) context.now.lines.now)) context.now.here kind text.now fields }
 {
     let mut fields = fields;
@@ -280,7 +285,7 @@ fn behind_comma(text: Option<&[u8]>) -> Result<Option<&[u8]>, Why>
 
 #[tactic(auto, unfolding(crate::specs::Operands::next_operand))]
 fn next_operand<'a>(
-    context: &Context<'_>,
+    context: &Context<'_, '_>,
     kind: Kind,
     text: Option<&'a [u8]>,
     fields: Fields,
@@ -311,7 +316,7 @@ fn finished(text: Option<&[u8]>, fields: Fields) -> Result<Fields, Why>
 /// The values of operands of these kinds, beginning with the values given.
 #[tactic(auto, unfolding(crate::specs::Operands::operands))]
 pub fn operands(
-    context: &Context<'_>,
+    context: &Context<'_, '_>,
     kinds: &[Kind],
     text: Option<&[u8]>,
     fields: Fields,

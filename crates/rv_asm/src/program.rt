@@ -6,7 +6,7 @@ ghost use Rattle.rv_asm.specs.Program.{is_given, stated, line_says, lines_of, Wr
 ghost use Rattle.rv_asm.specs.Lines.{line_of};
 
 use crate::fault::{AsmFault, Why};
-use crate::lines::{line_of, place_of, word_count};
+use crate::lines::{count_of, line_of, place_of};
 use crate::operands::Context;
 use crate::statements::{Meaning, statement};
 use crate::words::push_words;
@@ -21,7 +21,7 @@ fn is_given(before: &[&str], label: Option<&[u8]>) -> bool
     }
 }
 
-fn stated(context: &Context<'_>, text: Option<&[u8]>) -> Result<Option<Meaning>, Why>
+fn stated(context: &Context<'_, '_>, text: Option<&[u8]>) -> Result<Option<Meaning>, Why>
     ensures { result ≡ stated (map (λ line. line.now) context.now.lines.now) context.now.here (option_copied text.entry) }
 {
     match text {
@@ -34,7 +34,7 @@ fn stated(context: &Context<'_>, text: Option<&[u8]>) -> Result<Option<Meaning>,
 }
 
 #[tactic(auto, unfolding(crate::specs::Program::line_says))]
-fn line_says(context: &Context<'_>, index: usize, text: &[u8]) -> Result<Option<Meaning>, Why>
+fn line_says(context: &Context<'_, '_>, index: usize, text: &[u8]) -> Result<Option<Meaning>, Why>
     requires { index ≤ length context.now.lines.now }
     ensures { result ≡ line_says (map (λ line. line.now) context.now.lines.now) index context.now.here text.now }
 {
@@ -47,7 +47,7 @@ fn line_says(context: &Context<'_>, index: usize, text: &[u8]) -> Result<Option<
 
 fn push_line(
     bytes: &mut Vec<u8>,
-    context: &Context<'_>,
+    context: &Context<'_, '_>,
     index: usize,
     text: &[u8],
 ) -> Result<(), AsmFault>
@@ -76,9 +76,12 @@ fn assemble_lines(alloc: Global, lines: &[&str]) -> Result<Vec<u8>, AsmFault>
     let mut here = 0u64;
     for (index, text) in lines.iter().enumerate() {
         let text = text.as_bytes();
-        let context = Context { lines, here };
+        let context = Context {
+            lines: &*lines,
+            here,
+        };
         push_line(&mut bytes, &context, index, text)?;
-        here += word_count(line_of(text).statement);
+        here += count_of(text);
     }
     Ok(bytes)
 }
@@ -100,5 +103,5 @@ pub fn assemble(alloc: Global, text: &str) -> Result<Vec<u8>, AsmFault>
     ensures fault { IfErr result (IsFirstFault text.now) }
 {
     let lines = lines_of(alloc, text)?;
-    assemble_lines(alloc, &lines)
+    assemble_lines(alloc, lines.as_slice())
 }

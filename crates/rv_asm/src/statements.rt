@@ -37,7 +37,11 @@ fn blank() -> Fields
     }
 }
 
-fn row_of(context: &Context<'_>, row: Option<Instr>, rest: Option<&[u8]>) -> Result<Meaning, Why>
+fn row_of(
+    context: &Context<'_, '_>,
+    row: Option<Instr>,
+    rest: Option<&[u8]>,
+) -> Result<Meaning, Why>
     ensures { result ≡ row_of (place_of (map (λ line. line.now) context.now.lines.now)) context.now.here row (option_copied rest.entry) }
 {
     match row {
@@ -49,14 +53,14 @@ fn row_of(context: &Context<'_>, row: Option<Instr>, rest: Option<&[u8]>) -> Res
     }
 }
 
-fn data_of(context: &Context<'_>, rest: Option<&[u8]>) -> Result<Meaning, Why>
+fn data_of(context: &Context<'_, '_>, rest: Option<&[u8]>) -> Result<Meaning, Why>
     ensures { result ≡ data_of (place_of (map (λ line. line.now) context.now.lines.now)) context.now.here (option_copied rest.entry) }
 {
     let fields = operands(context, &[Kind::Word], rest, blank())?;
     Ok(Meaning::Data(fields.wide))
 }
 
-fn loads(context: &Context<'_>, rest: Option<&[u8]>) -> Result<Meaning, Why>
+fn loads(context: &Context<'_, '_>, rest: Option<&[u8]>) -> Result<Meaning, Why>
     ensures { result ≡ loads (place_of (map (λ line. line.now) context.now.lines.now)) context.now.here (option_copied rest.entry) }
 {
     let fields = operands(context, &[Kind::Rd, Kind::Value], rest, blank())?;
@@ -65,7 +69,7 @@ fn loads(context: &Context<'_>, rest: Option<&[u8]>) -> Result<Meaning, Why>
 
 /// What a statement says, or its first fault.
 #[tactic(auto, unfolding(crate::specs::Statements::statement))]
-pub fn statement(context: &Context<'_>, text: &[u8]) -> Result<Meaning, Why>
+pub fn statement(context: &Context<'_, '_>, text: &[u8]) -> Result<Meaning, Why>
     ensures { result ≡ statement (place_of (map (λ line. line.now) context.now.lines.now)) context.now.here text.now }
 {
     let (name, rest) = cut(text, b' ');
