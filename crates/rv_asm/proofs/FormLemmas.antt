@@ -1,5 +1,5 @@
 -- The statement of an instruction names it.
-use Rattle.std.proofs.Common.{◌≡◌, ℕ, Bool, true, false, ℤ, pos, List, [], ◌∷◌, Option, Some, None, ◌||◌, length, eqb, ltb, refl, ap, arith}
+use Rattle.std.proofs.Common.{◌≡◌, ℕ, Bool, true, false, pos, List, [], ◌∷◌, Some, ◌||◌, length, eqb, ltb, refl, ap, arith}
 use Rattle.std.specs.Prelude.{codes}
 use Rattle.std.specs.Char.{is_ascii_alphanumeric}
 use Rattle.std.specs.List.{list_all}
@@ -10,7 +10,7 @@ use Rattle.rv_isa.specs.declared.instr.Instr.TheVariants.{Lui, Auipc, Jal, Jalr,
 use Rattle.rv_asm.specs.declared.kinds.Kind.{Kind}
 use Rattle.rv_asm.specs.declared.kinds.Kind.TheVariants as kinds
 use Rattle.rv_asm.specs.declared.kinds.Fields.{Fields}
-use Rattle.rv_asm.specs.Forms.{Form, blank, form_of, has_statement, filled, examples, named}
+use Rattle.rv_asm.specs.Forms.{blank, form_of, has_statement, filled, examples, named}
 
 -- the values with those of an operand taken over
 abbrev pub taken : Kind → Fields → Fields → Fields

@@ -1,5 +1,5 @@
 -- What is read of a statement is what the grammar says.
-use Rattle.std.proofs.Common.{◌≡◌, ℕ, suc, ◌+◌, ◌*◌, ◌%◌, ◌^◌, ◌-◌, ◌<◌, ◌≤◌, ◌⊎◌, Bool, true, false, cond, ◌&&◌, ℤ, List, [], ◌∷◌, ◌++◌, length, Option, Some, None, Result, Ok, Err, eqb, refl, sym, ap, subst, ◌∙◌, inl, inr, arith}
+use Rattle.std.proofs.Common.{◌≡◌, ℕ, ◌%◌, ◌^◌, ◌-◌, Bool, true, false, cond, ◌&&◌, ℤ, List, [], ◌∷◌, ◌++◌, length, Option, Some, None, Result, Ok, Err, eqb, refl, sym, ap, subst, ◌∙◌, inl, inr}
 use Rattle.std.specs.Prelude.{codes}
 use Rattle.std.specs.List.{find}
 use Rattle.std.specs.Str.{bytes_eq}
@@ -8,7 +8,7 @@ use Rattle.std.proofs.lemmas.List.{nil_from_length}
 use Rattle.std.proofs.lemmas.Slice.Eq.{bytes_eq-Decides}
 use Rattle.rv_isa.specs.declared.instr.Instr.{Instr}
 use Rattle.rv_isa.specs.declared.instr.Instr.TheVariants.{Lui, Auipc, Jal, Jalr, Beq, Bne, Blt, Bge, Bltu, Bgeu, Lb, Lh, Lw, Lbu, Lhu, Sb, Sh, Sw, Addi, Slti, Sltiu, Xori, Ori, Andi, Slli, Srli, Srai, Add, Sll, Slt, Sltu, Xor, Srl, Or, And, Sub, Sra, Mul, Mulh, Mulhsu, Mulhu, Div, Divu, Rem, Remu, Fence, FenceI, Csrrw, Csrrs, Csrrc, Csrrwi, Csrrsi, Csrrci, Ecall, Ebreak, Mret, Wfi, Lr, Sc, AmoSwap, AmoAdd, AmoXor, AmoAnd, AmoOr, AmoMin, AmoMax, AmoMinu, AmoMaxu}
-use Rattle.rv_text.specs.Cuts.{Halves, cut}
+use Rattle.rv_text.specs.Cuts.{cut}
 use Rattle.rv_text.specs.declared.numbers.Number.{Number}
 use Rattle.rv_text.specs.Reading.{number_of, register_of, is_label}
 use Rattle.rv_asm.specs.declared.fault.Why.{Why}
@@ -20,7 +20,7 @@ use Rattle.rv_asm.specs.declared.statements.Meaning.{Meaning}
 use Rattle.rv_asm.specs.declared.statements.Meaning.TheVariants.{Data, Says, Loads}
 use Rattle.rv_asm.specs.Faults.{◌>>=◌}
 use Rattle.rv_asm.specs.Forms.{blank, form_of, filled, examples, named}
-use Rattle.rv_asm.specs.Grammar.{StandsFor, IsSignedText, IsUnsignedText, IsTargetText, IsWordOf, IsBracketText, IsOperandText, AreOperandTexts, IsStatementText, IsStatement}
+use Rattle.rv_asm.specs.Grammar.{StandsFor, IsSignedText, IsUnsignedText, IsTargetText, IsWordOf, IsBracketText, IsStatement}
 use Rattle.rv_asm.specs.Operands.{register, is_within, value, signed, even, unsigned, word, place_or, named_place, distance, address, number_else, label_target, target, label_value, signed_number, unsigned_number, bracketed, closed, base_register, address_parts, word_number, word_value, operand, behind_comma, next_operand, finished, operands}
 use Rattle.rv_asm.specs.Statements.{row_of, data_of, loads, statement}
 use Rattle.rv_asm.proofs.RangeLemmas.{bind_ok, ok_is, done, guard_ok, both, register_or_ok, step_by}

@@ -1,7 +1,6 @@
 -- The text of a word assembles to the word.
-use Rattle.std.proofs.Common.{◌≡◌, ℕ, ◌+◌, ◌<◌, ◌≤◌, ◌^◌, Bool, true, false, cond, ◌&&◌, ◌||◌, ℤ, List, [], ◌∷◌, ◌++◌, length, Option, Some, None, Result, Ok, Err, eqb, ltb, refl, sym, ap, subst, ◌∙◌, arith}
+use Rattle.std.proofs.Common.{◌≡◌, ℕ, ◌<◌, ◌^◌, Bool, true, false, cond, ◌&&◌, ◌||◌, List, [], ◌∷◌, length, Option, Some, None, Ok, eqb, refl, sym, ap, ◌∙◌, arith}
 use Rattle.std.specs.Prelude.{codes, IfSome}
-use Rattle.std.specs.Char.{is_ascii_alphanumeric}
 use Rattle.std.specs.List.{list_all, slice_split}
 use Rattle.std.specs.Str.{bytes_eq}
 use Rattle.std.proofs.lemmas.Bool.{ne_eqb, ltb-true}
@@ -11,20 +10,19 @@ use Rattle.rv_isa.specs.Table.{decoded}
 use Rattle.rv_isa.specs.declared.instr.Instr.{Instr}
 use Rattle.rv_isa.specs.declared.instr.Instr.TheVariants.{Lui, Auipc, Jal, Jalr, Beq, Bne, Blt, Bge, Bltu, Bgeu, Lb, Lh, Lw, Lbu, Lhu, Sb, Sh, Sw, Addi, Slti, Sltiu, Xori, Ori, Andi, Slli, Srli, Srai, Add, Sll, Slt, Sltu, Xor, Srl, Or, And, Sub, Sra, Mul, Mulh, Mulhsu, Mulhu, Div, Divu, Rem, Remu, Fence, FenceI, Csrrw, Csrrs, Csrrc, Csrrwi, Csrrsi, Csrrci, Ecall, Ebreak, Mret, Wfi, Lr, Sc, AmoSwap, AmoAdd, AmoXor, AmoAnd, AmoOr, AmoMin, AmoMax, AmoMinu, AmoMaxu}
 use Rattle.rv_isa.proofs.Within.{within}
-use Rattle.rv_text.specs.Cuts.{Halves, cut}
-use Rattle.rv_asm.specs.declared.fault.Why.{Why}
+use Rattle.rv_text.specs.Cuts.{cut}
 use Rattle.rv_asm.specs.declared.kinds.Fields.{Fields}
 use Rattle.rv_asm.specs.declared.kinds.Kind.{Kind}
 use Rattle.rv_asm.specs.declared.kinds.Kind.TheVariants as kinds
 use Rattle.rv_asm.specs.declared.statements.Meaning.{Meaning}
 use Rattle.rv_asm.specs.declared.statements.Meaning.TheVariants.{Data, Says}
-use Rattle.rv_asm.specs.Forms.{Form, blank, form_of, filled, has_statement, named}
-use Rattle.rv_asm.specs.Lines.{Line, label_of, line_of, place_of}
+use Rattle.rv_asm.specs.Forms.{blank, form_of, filled, has_statement, named}
+use Rattle.rv_asm.specs.Lines.{label_of, line_of, place_of}
 use Rattle.rv_asm.specs.Operands.{operands}
 use Rattle.rv_asm.specs.Program.{lines_of, line_says, program_from, program, Assembles}
 use Rattle.rv_asm.specs.Statements.{statement}
 use Rattle.rv_asm.specs.Texts.{operand_texts, statement_text, form_text, data_text, text_by, text_of}
-use Rattle.rv_asm.proofs.FormLemmas.{all_taken, is_name_byte, Leads, leads}
+use Rattle.rv_asm.proofs.FormLemmas.{all_taken, is_name_byte, leads}
 use Rattle.rv_asm.proofs.RangeLemmas.{done}
 use Rattle.rv_asm.proofs.TextLemmas.{is_operand_byte, cut_whole, cut_before, weaken, joined_all, AllInRange, operands_again, operand_texts_bytes}
 
@@ -195,7 +193,7 @@ data_law : (word : ℕ) → word < 2 ^ 32 → Assembles (data_text word) (word �
 data_law word below = (Data word ∷ [], data_program word below, (word ∷ [], [], refl, refl, refl))
 
 by_choice : (b : Bool) (i : Instr) (word : ℕ) → has_statement i ≡ b → word < 2 ^ 32 → decoded word ≡ Some i → IsWithin i → Assembles (cond b (form_text (form_of i)) (data_text word)) (word ∷ [])
-by_choice true i word has below e w = (Says i ∷ [], instr_program i has w, (word ∷ [], [], (word, e, refl), refl, refl))
+by_choice true i word has below e w = (Says i ∷ [], instr_program i has w, (word ∷ [], [], (word, below, e, refl), refl, refl))
 by_choice false i word has below e w = data_law word below
 
 by_row : (o : Option Instr) (word : ℕ) → word < 2 ^ 32 → decoded word ≡ o → IfSome o IsWithin → Assembles (text_by o word) (word ∷ [])

@@ -12,3 +12,4 @@ pub mod ProgramLemmas
 pub mod RangeLemmas
 pub mod SaidLemmas
 pub mod TextLemmas
+pub mod WordLemmas

@@ -1,7 +1,7 @@
 -- Labels and their places, line by line.
-use Rattle.std.proofs.Common.{◌≡◌, ℕ, zero, suc, ◌+◌, ◌<◌, ◌≤◌, Bool, true, false, List, [], ◌∷◌, length, get_or, map, take, drop, Option, Some, None, Bor, refl, sym, ap, arith}
+use Rattle.std.proofs.Common.{◌≡◌, ℕ, zero, suc, ◌+◌, ◌<◌, ◌≤◌, true, false, List, [], ◌∷◌, length, get_or, map, take, drop, Option, Some, None, Bor, refl, ap, arith}
 use Rattle.rv_asm.specs.Program.{is_given}
-use Rattle.rv_asm.specs.Lines.{Line, line_of, word_count, is_named, place_from}
+use Rattle.rv_asm.specs.Lines.{line_of, word_count, is_named, place_from}
 
 pub place_here : (lines : List (Bor (List ℕ))) (i place : ℕ) (name : List ℕ) (d : Bor (List ℕ)) → i < length lines → is_named (line_of (get_or lines i d).now).label name ≡ true → place_from (drop i (map (λ line. line.now) lines)) place name ≡ Some place
 unfolding place_from

@@ -1,5 +1,5 @@
 -- What the grammar says is read.
-use Rattle.std.proofs.Common.{◌≡◌, ℕ, ◌+◌, ◌*◌, ◌%◌, ◌^◌, ◌-◌, ◌<◌, ◌≤◌, ◌⊎◌, Bool, true, false, cond, ◌&&◌, ◌||◌, not, ℤ, List, [], ◌∷◌, ◌++◌, length, get_or, drop, Option, Some, None, Result, Ok, Err, eqb, ltb, leb, refl, sym, ap, subst, ◌∙◌, inl, inr, arith}
+use Rattle.std.proofs.Common.{◌≡◌, ℕ, ◌+◌, ◌%◌, ◌<◌, ◌≤◌, Bool, true, false, cond, ◌&&◌, ◌||◌, ℤ, List, [], ◌∷◌, ◌++◌, length, get_or, drop, Option, Some, None, Ok, eqb, ltb, leb, refl, ap, subst, ◌∙◌, inl, inr, arith}
 use Rattle.std.specs.Prelude.{codes, option_map}
 use Rattle.std.specs.Char.{digit_value, is_digit, is_ascii_alphabetic, is_ascii_alphanumeric}
 use Rattle.std.specs.Int.{is_in_range}
@@ -11,7 +11,6 @@ use Rattle.rv_isa.specs.declared.instr.Instr.{Instr}
 use Rattle.rv_text.specs.Cuts.{Halves, cut}
 use Rattle.rv_text.specs.declared.numbers.Number.{Number}
 use Rattle.rv_text.specs.Reading.{is_numeral, needs_each_digit, decimal_of, hexadecimal_of, number_of, below, register_of, is_label, is_label_byte}
-use Rattle.rv_asm.specs.declared.fault.Why.{Why}
 use Rattle.rv_asm.specs.declared.kinds.Fields.{Fields}
 use Rattle.rv_asm.specs.declared.kinds.Kind.{Kind}
 use Rattle.rv_asm.specs.declared.kinds.Kind.TheVariants as kinds
@@ -19,9 +18,9 @@ use Rattle.rv_asm.specs.declared.statements.Meaning.{Meaning}
 use Rattle.rv_asm.specs.declared.statements.Meaning.TheVariants.{Data, Says, Loads}
 use Rattle.rv_asm.specs.Forms.{blank, form_of, filled, named}
 use Rattle.rv_asm.specs.Grammar.{StandsFor, IsSignedText, IsUnsignedText, IsTargetText, IsWordOf, IsBracketText, IsOperandText, AreOperandTexts, IsStatementText, IsStatement}
-use Rattle.rv_asm.specs.Operands.{register, is_within, value, signed, even, word, named_place, distance, address, label_target, target, label_value, signed_number, unsigned_number, bracketed, base_register, address_parts, word_number, word_value, operand, next_operand, operands}
+use Rattle.rv_asm.specs.Operands.{register, is_within, value, even, word, distance, address, label_target, target, label_value, signed_number, unsigned_number, bracketed, base_register, address_parts, word_number, word_value, operand, next_operand, operands}
 use Rattle.rv_asm.specs.Statements.{statement}
-use Rattle.rv_asm.proofs.FormLemmas.{taken, all_taken, is_name_byte, Leads, leads}
+use Rattle.rv_asm.proofs.FormLemmas.{taken, all_taken, is_name_byte, leads}
 use Rattle.rv_asm.proofs.RangeLemmas.{done}
 use Rattle.rv_asm.proofs.TextLemmas.{cut_whole, cut_before, weaken, joined_all, chain_two, chain_closed}
 

@@ -1,12 +1,11 @@
 -- A number that is cut off past every bound is judged as the number itself.
-use Rattle.std.proofs.Common.{◌≡◌, ℕ, ◌<◌, ◌≤◌, ◌^◌, ◌-◌, ◌&&◌, min, Bool, true, false, cond, Option, Some, None, Result, Ok, Err, refl, sym, ap, ◌∙◌, inl, inr, arith}
-use Rattle.std.specs.Prelude.{option_map, nat_le}
+use Rattle.std.proofs.Common.{◌≡◌, ℕ, ◌<◌, ◌^◌, ◌-◌, min, Bool, true, false, cond, Option, Some, None, Result, Err, refl, sym, ap, ◌∙◌, inl, inr, arith}
+use Rattle.std.specs.Prelude.{option_map}
 use Rattle.std.proofs.lemmas.Bool.{cases_lt, lt-leb}
 use Rattle.rv_text.specs.declared.numbers.Number.{Number}
 use Rattle.rv_text.specs.Reading.{capped, limit}
 use Rattle.rv_asm.specs.declared.fault.Why.{Why}
 use Rattle.rv_asm.specs.declared.fault.Why.TheVariants.{Range}
-use Rattle.rv_asm.specs.Faults.{◌>>=◌}
 use Rattle.rv_asm.specs.Operands.{is_within, signed, even, unsigned, word, number_else}
 
 bound_low : (negative : Bool) (low high : ℕ) → low < limit → high < limit → cond negative low high < limit

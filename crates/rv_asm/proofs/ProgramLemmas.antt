@@ -1,6 +1,5 @@
 -- Lines that were read, one after the other.
-use Rattle.std.proofs.Common.{◌≡◌, ℕ, zero, suc, ◌+◌, ◌<◌, ◌≤◌, List, [], ◌∷◌, ◌++◌, length, get_or, map, drop, Option, Some, None, Result, Ok, Err, Bor, add-one, append_assoc, refl, sym, ap, subst, ◌∙◌, arith}
-use Rattle.std.specs.List.{flat_map}
+use Rattle.std.proofs.Common.{◌≡◌, ℕ, zero, suc, ◌+◌, ◌<◌, ◌≤◌, List, [], ◌∷◌, ◌++◌, length, get_or, map, drop, Option, Some, None, Result, Ok, Err, Bor, add-one, append_assoc, refl, sym, ap, ◌∙◌, arith}
 use Rattle.std.specs.Int.{w32, to_le_bytes}
 use Rattle.std.proofs.lemmas.List.{append-nil}
 use Rattle.std.proofs.lemmas.Grind.{flat_map-append}
@@ -10,7 +9,7 @@ use Rattle.rv_asm.specs.declared.fault.AsmFault.TheVariants as faults
 use Rattle.rv_asm.specs.declared.statements.Meaning.{Meaning}
 use Rattle.rv_asm.specs.Lines.{line_of, word_count}
 use Rattle.rv_asm.specs.Program.{Bad, with_before, said, line_says, program_from, program, AreAllWords, HaveBytes, HaveFault, WritesMeaning, WritesLine, IsLineFault, bytes_of}
-use Rattle.rv_asm.specs.Statements.{AreWords, Writes}
+use Rattle.rv_asm.specs.Statements.{AreWords}
 
 -- the lines below an index were read
 abbrev pub HasRead : List (List ℕ) → ℕ → ℕ → List ℕ → Type 0

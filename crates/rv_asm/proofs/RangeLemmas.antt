@@ -1,19 +1,19 @@
 -- The operands that are read are within what a word has room for.
-use Rattle.std.proofs.Common.{◌≡◌, ℕ, zero, suc, ◌+◌, ◌*◌, ◌%◌, ◌^◌, ◌<◌, ◌≤◌, ◌-◌, Bool, true, false, cond, ◌&&◌, ℤ, pos, List, [], ◌∷◌, Option, Some, None, Result, Ok, Err, length, get_or, drop, ltb, leb, eqb, refl, sym, ap, subst, ◌∙◌, inl, inr, arith}
+use Rattle.std.proofs.Common.{◌≡◌, ℕ, zero, suc, ◌+◌, ◌%◌, ◌^◌, ◌<◌, ◌≤◌, ◌-◌, Bool, true, false, cond, ◌&&◌, ℤ, pos, List, [], ◌∷◌, Option, Some, None, Result, Ok, Err, length, get_or, drop, ltb, leb, eqb, refl, subst, arith}
 use Rattle.std.specs.Prelude.{option_map, neg_ℤ, ◌≤ℤ◌, ◌<ℤ◌, unsigned_abs}
 use Rattle.std.proofs.lemmas.Bool.{ltb-true, leb-true, eqb-true}
 use Rattle.std.proofs.lemmas.Int.{ints}
 use Rattle.rv_isa.specs.Ranges.{IsSigned, IsOffset}
 use Rattle.rv_text.specs.Cuts.{cut}
 use Rattle.rv_text.specs.declared.numbers.Number.{Number}
-use Rattle.rv_text.specs.Reading.{number_of, register_of, decimal_of, below, is_label}
+use Rattle.rv_text.specs.Reading.{number_of, register_of, decimal_of, below}
 use Rattle.rv_asm.specs.declared.fault.Why.{Why}
-use Rattle.rv_asm.specs.declared.fault.Why.TheVariants.{Word, Register, Range, Label}
+use Rattle.rv_asm.specs.declared.fault.Why.TheVariants.{Word, Range}
 use Rattle.rv_asm.specs.declared.kinds.Fields.{Fields}
 use Rattle.rv_asm.specs.declared.kinds.Kind.{Kind}
 use Rattle.rv_asm.specs.declared.kinds.Kind.TheVariants as kinds
 use Rattle.rv_asm.specs.Faults.{◌>>=◌}
-use Rattle.rv_asm.specs.Operands.{register_or, register, is_within, value, signed, even, unsigned, word, named_place, distance, number_else, label_target, target, signed_number, unsigned_number, bracketed, closed, base_register, address_parts, word_number, word_value, operand, behind_comma, next_operand, finished, operands}
+use Rattle.rv_asm.specs.Operands.{register_or, register, is_within, value, signed, even, unsigned, named_place, distance, number_else, label_target, target, signed_number, unsigned_number, bracketed, closed, base_register, address_parts, word_number, word_value, operand, behind_comma, next_operand, finished, operands}
 
 -- the value of a step that did not fail
 pub bind_ok : {A B : Type 0} (r : Result A Why) (f : A → Result B Why) (y : B) → (r >>= f) ≡ Ok y → (x : A) × (r ≡ Ok x) × (f x ≡ Ok y)

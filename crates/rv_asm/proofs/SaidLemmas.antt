@@ -1,19 +1,16 @@
 -- An instruction whose operands were read is one that a word says.
-use Rattle.std.proofs.Common.{◌≡◌, ℕ, ◌^◌, ◌<◌, Bool, true, false, cond, ℤ, List, [], ◌∷◌, Option, Some, None, Result, Ok, Err, take, refl, subst, arith}
+use Rattle.std.proofs.Common.{◌≡◌, ℕ, ◌<◌, Bool, true, false, cond, List, [], ◌∷◌, Option, Some, None, Result, Ok, Err, take, subst, arith}
 use Rattle.std.specs.Prelude.{codes}
 use Rattle.std.specs.Str.{bytes_eq}
 use Rattle.rv_isa.specs.Ranges.{IsWithin}
-use Rattle.rv_isa.specs.Table.{IsSpelled}
 use Rattle.rv_isa.proofs.Said.{spelled_within}
 use Rattle.rv_isa.specs.declared.instr.Instr.{Instr}
 use Rattle.rv_isa.specs.declared.instr.Instr.TheVariants.{Lui, Auipc, Jal, Jalr, Beq, Bne, Blt, Bge, Bltu, Bgeu, Lb, Lh, Lw, Lbu, Lhu, Sb, Sh, Sw, Addi, Slti, Sltiu, Xori, Ori, Andi, Slli, Srli, Srai, Add, Sll, Slt, Sltu, Xor, Srl, Or, And, Sub, Sra, Mul, Mulh, Mulhsu, Mulhu, Div, Divu, Rem, Remu, Fence, FenceI, Csrrw, Csrrs, Csrrc, Csrrwi, Csrrsi, Csrrci, Ecall, Ebreak, Mret, Wfi, Lr, Sc, AmoSwap, AmoAdd, AmoXor, AmoAnd, AmoOr, AmoMin, AmoMax, AmoMinu, AmoMaxu}
 use Rattle.rv_text.specs.Cuts.{cut}
 use Rattle.rv_asm.specs.declared.fault.Why.{Why}
-use Rattle.rv_asm.specs.declared.kinds.Fields.{Fields}
 use Rattle.rv_asm.specs.declared.kinds.Kind.TheVariants as kinds
 use Rattle.rv_asm.specs.declared.statements.Meaning.{Meaning}
 use Rattle.rv_asm.specs.declared.statements.Meaning.TheVariants.{Data, Says, Loads}
-use Rattle.rv_asm.specs.Faults.{◌>>=◌}
 use Rattle.rv_asm.specs.Forms.{blank, form_of, filled, named}
 use Rattle.rv_asm.specs.declared.fault.Why.TheVariants.{Label}
 use Rattle.rv_asm.specs.Lines.{line_of, place_of}

@@ -1,14 +1,13 @@
 -- The text of an operand is read as the operand.
-use Rattle.std.proofs.Common.{◌≡◌, ℕ, zero, suc, ◌+◌, ◌*◌, ◌%◌, ◌^◌, ◌<◌, ◌≤◌, ◌-◌, Bool, true, false, cond, ◌&&◌, ◌||◌, not, ℤ, pos, negsuc, List, [], ◌∷◌, ◌++◌, length, get_or, Option, Some, None, Result, Ok, Err, eqb, ltb, leb, refl, sym, ap, subst, ◌∙◌, append_assoc, inl, inr, arith}
-use Rattle.std.specs.Prelude.{neg_ℤ, unsigned_abs, codes, ◌≤ℤ◌, ◌<ℤ◌}
+use Rattle.std.proofs.Common.{◌≡◌, ℕ, suc, ◌%◌, ◌^◌, ◌<◌, ◌≤◌, Bool, true, false, ◌&&◌, ◌||◌, ℤ, pos, negsuc, List, [], ◌∷◌, ◌++◌, length, get_or, Option, Some, None, Result, Ok, eqb, refl, sym, ap, ◌∙◌, inl, inr, arith}
+use Rattle.std.specs.Prelude.{codes}
 use Rattle.std.specs.Char.{is_digit}
 use Rattle.std.specs.List.{list_all}
-use Rattle.std.proofs.lemmas.Bool.{ne_eqb, eq-eqb, eqb-true, lt-ltb, ltb-true, le-leb, cases_lt}
+use Rattle.std.proofs.lemmas.Bool.{ne_eqb, eq-eqb, lt-ltb, ltb-true, le-leb, cases_lt}
 use Rattle.std.proofs.lemmas.Int.{ints}
 use Rattle.std.proofs.lemmas.List.Folds.{list_all-append}
 use Rattle.rv_isa.specs.Ranges.{IsSigned, IsOffset}
-use Rattle.rv_text.specs.Cuts.{Halves, with_front, cut}
-use Rattle.rv_text.specs.declared.numbers.Number.{Number}
+use Rattle.rv_text.specs.Cuts.{Halves, cut}
 use Rattle.rv_text.specs.Reading.{number_of}
 use Rattle.rv_text.specs.Writing.{numeral, last_digits}
 use Rattle.rv_asm.specs.declared.fault.Why.{Why}
@@ -16,7 +15,7 @@ use Rattle.rv_asm.specs.declared.kinds.Fields.{Fields}
 use Rattle.rv_asm.specs.declared.kinds.Kind.{Kind}
 use Rattle.rv_asm.specs.declared.kinds.Kind.TheVariants as kinds
 use Rattle.rv_asm.specs.Faults.{◌>>=◌}
-use Rattle.rv_asm.specs.Operands.{register, signed_number, unsigned_number, target, word_number, word_value, base_register, address_parts, bracketed, closed, operand, behind_comma, next_operand, operands}
+use Rattle.rv_asm.specs.Operands.{register, signed_number, unsigned_number, target, word_number, word_value, base_register, address_parts, bracketed, closed, operand, next_operand, operands}
 use Rattle.rv_asm.specs.Texts.{register_text, signed_text, upper_text, bracket_text, operand_text, operand_texts}
 use Rattle.rv_asm.proofs.DigitLemmas.{numeral_digits, numeral_written, numeral_zero, decimal_again, hexadecimal_again, last_digits_are, word_again}
 use Rattle.rv_asm.proofs.FormLemmas.{taken, all_taken}

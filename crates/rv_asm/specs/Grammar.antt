@@ -1,5 +1,5 @@
 -- The grammar of a statement: which texts say what.
-use Rattle.std.specs.Prelude.{◌≡◌, ℕ, ◌%◌, ◌^◌, ◌-◌, ◌<◌, ◌⊎◌, Bool, true, IsTrue, ℤ, List, [], ◌∷◌, ◌++◌, Option, Some, None, codes, if◌then◌else◌}
+use Rattle.std.specs.Prelude.{◌≡◌, ℕ, ◌%◌, ◌^◌, ◌-◌, ◌⊎◌, true, ℤ, List, [], ◌∷◌, ◌++◌, Option, Some, None, codes, if◌then◌else◌}
 use Rattle.rv_text.specs.declared.numbers.Number.{Number}
 use Rattle.rv_text.specs.Reading.{number_of, register_of, is_label}
 use Rattle.rv_asm.specs.declared.kinds.Fields.{Fields}

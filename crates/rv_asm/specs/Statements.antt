@@ -1,5 +1,5 @@
 -- What a statement says, and the words that say it.
-use Rattle.std.specs.Prelude.{◌≡◌, ℕ, ◌+◌, ◌-◌, ◌*◌, ◌/◌, ◌%◌, ◌^◌, ◌<◌, ℤ, List, [], ◌∷◌, ◌++◌, Option, Some, None, Result, Ok, Err, codes, if◌then◌else◌}
+use Rattle.std.specs.Prelude.{◌≡◌, ℕ, ◌+◌, ◌/◌, ◌%◌, ◌^◌, ◌<◌, ℤ, List, [], ◌∷◌, ◌++◌, Option, Some, None, Result, Ok, Err, codes, if◌then◌else◌}
 use Rattle.std.specs.List.{flat_map}
 use Rattle.std.specs.Int.{w32, to_le_bytes}
 use Rattle.std.specs.Str.{bytes_eq}
@@ -47,9 +47,9 @@ lower_part n = signed 12 (n % 2 ^ 12)
 -- the words of a statement: a word says an instruction by the instruction table, and `li` is LUI and ADDI
 abbrev pub AreWords : Meaning → List ℕ → Type 0
 AreWords (Data word) words = words ≡ word ∷ []
-AreWords (Says instr) words = (word : ℕ) × (decoded word ≡ Some instr) × (words ≡ word ∷ [])
+AreWords (Says instr) words = (word : ℕ) × (word < 2 ^ 32) × (decoded word ≡ Some instr) × (words ≡ word ∷ [])
 AreWords (Loads rd value) words =
-    (first : ℕ) × (second : ℕ) × (decoded first ≡ Some (Lui rd (upper_part value))) × (decoded second ≡ Some (Addi rd rd (lower_part value))) × (words ≡ first ∷ second ∷ [])
+    (first : ℕ) × (second : ℕ) × (first < 2 ^ 32) × (second < 2 ^ 32) × (decoded first ≡ Some (Lui rd (upper_part value))) × (decoded second ≡ Some (Addi rd rd (lower_part value))) × (words ≡ first ∷ second ∷ [])
 
 -- some word says it
 abbrev pub IsSaid : Meaning → Type 0

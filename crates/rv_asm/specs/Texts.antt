@@ -1,5 +1,5 @@
 -- The text of a word.
-use Rattle.std.specs.Prelude.{ℕ, Bool, ℤ, pos, negsuc, suc, List, [], ◌∷◌, ◌++◌, Option, Some, None, codes, if◌then◌else◌}
+use Rattle.std.specs.Prelude.{ℕ, ℤ, pos, negsuc, suc, List, [], ◌∷◌, ◌++◌, Option, Some, None, codes, if◌then◌else◌}
 use Rattle.rv_isa.specs.Table.{decoded}
 use Rattle.rv_isa.specs.declared.instr.Instr.{Instr}
 use Rattle.rv_text.specs.Writing.{numeral, last_digits}

@@ -1,8 +1,8 @@
 //! Assembling a text, line by line.
 
-ghost use Rattle.std.specs.Prelude.{◌≡◌, ◌≤◌, ◌<◌, map, length, OnOk, IfOk, IfErr};
+ghost use Rattle.std.specs.Prelude.{◌≡◌, ◌≤◌, ◌<◌, ℕ, List, map, length, OnOk, IfOk, IfErr};
 ghost use Rattle.std.specs.Option.{option_copied};
-ghost use Rattle.rv_asm.specs.Program.{is_given, stated, line_says, lines_of, WritesLine, IsLineFault, HaveBytes, HaveFault, AreBytesOf, IsFirstFault};
+ghost use Rattle.rv_asm.specs.Program.{is_given, stated, line_says, lines_of, WritesLine, IsLineFault, HaveBytes, HaveFault, bytes_of, Assembles, AreBytesOf, IsFirstFault};
 ghost use Rattle.rv_asm.specs.Lines.{line_of};
 
 use crate::fault::{AsmFault, Why};
@@ -100,6 +100,9 @@ fn lines_of(alloc: Global, text: &str) -> Result<Vec<&str>, AllocError>
 /// and `li` is LUI and ADDI. The first word stands at 0x80000000.
 pub fn assemble(alloc: Global, text: &str) -> Result<Vec<u8>, AsmFault>
     ensures words { IfOk result (λ bytes. AreBytesOf text.now bytes.items) }
+
+    // The text has no other words.
+    ensures only { IfOk result (λ bytes. (words : List ℕ) → Assembles text.now words → bytes.items ≡ bytes_of words) }
     ensures fault { IfErr result (IsFirstFault text.now) }
 {
     let lines = lines_of(alloc, text)?;

@@ -1,4 +1,4 @@
-use Rattle.std.proofs.Common.{ℕ, List, true, false, length, ap, sym, ◌∙◌, arith}
+use Rattle.std.proofs.Common.{ℕ, List, ap, ◌∙◌}
 use Rattle.std.specs.Str.{bytes_eq}
 use Rattle.rv_asm.proofs.JoinLemmas.{joined_yes, joined_no}
 use Rattle.rv_asm.proofs.examples.is_joined.Goals as goal

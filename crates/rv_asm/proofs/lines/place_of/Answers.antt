@@ -1,5 +1,5 @@
-use Rattle.std.proofs.Common.{◌≡◌, ℕ, ◌+◌, List, Bool, true, false, Option, map, drop, Bor, ap, sym, ◌∙◌, add-one, subst, arith}
-use Rattle.rv_asm.specs.Lines.{Line, line_of, word_count, is_named, place_from, place_of}
+use Rattle.std.proofs.Common.{ℕ, List, Option, ap, sym, ◌∙◌, add-one, arith}
+use Rattle.rv_asm.specs.Lines.{line_of, word_count, is_named}
 use Rattle.rv_asm.proofs.LineLemmas.{place_here, place_next, place_end}
 use Rattle.rv_asm.proofs.lines.place_of.Goals as goal
 

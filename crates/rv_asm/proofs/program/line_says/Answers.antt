@@ -1,4 +1,4 @@
-use Rattle.std.proofs.Common.{◌≡◌, ℕ, Bool, true, false, cond, Err, map, take, refl, ap, sym, ◌∙◌}
+use Rattle.std.proofs.Common.{◌≡◌, Bool, true, false, cond, Err, map, take, refl, ap, ◌∙◌}
 use Rattle.rv_asm.specs.declared.fault.Why.TheVariants.{Label}
 use Rattle.rv_asm.specs.Lines.{line_of}
 use Rattle.rv_asm.specs.Program.{is_given, stated, line_says}

@@ -1,4 +1,4 @@
-use Rattle.std.proofs.Common.{ℕ, List, [], ◌∷◌, ◌++◌, Option, Some, refl, ap, sym, subst, ◌∙◌, append_assoc}
+use Rattle.std.proofs.Common.{ℕ, List, [], ◌∷◌, ◌++◌, Some, refl, ap, sym, subst, ◌∙◌, append_assoc}
 use Rattle.std.specs.Int.{w32, to_le_bytes}
 use Rattle.std.proofs.lemmas.Result.{on_ok_weaker}
 use Rattle.rv_isa.specs.Table.{IsSpelled}
@@ -19,5 +19,5 @@ returns c =
     let upper = c.encode-upper.ensures.says ∙ ap (λ (i : Instr). Some i) c.upper_instr-first.ensures in
     let lower = c.encode-lower.ensures.says ∙ ap (λ (i : Instr). Some i) c.lower_instr-second.ensures in
     on_ok_weaker c.push_word-2.result
-    (λ e. (u ∷ l ∷ [], (u, l, upper, lower, refl), e ∙ (ap (λ (x : List ℕ). x ++ to_le_bytes w32 l) c.in_ok-push_word.ensures ∙ append_assoc c.args.bytes.now.items (to_le_bytes w32 u) (to_le_bytes w32 l))))
+    (λ e. (u ∷ l ∷ [], (u, l, c.encode-upper.type_inv, c.encode-lower.type_inv, upper, lower, refl), e ∙ (ap (λ (x : List ℕ). x ++ to_le_bytes w32 l) c.in_ok-push_word.ensures ∙ append_assoc c.args.bytes.now.items (to_le_bytes w32 u) (to_le_bytes w32 l))))
     c.push_word-2.ensures
