@@ -1,0 +1,9 @@
+pub mod Faults
+pub mod Forms
+pub mod Grammar
+pub mod Lines
+pub mod Operands
+pub mod Parts
+pub mod Program
+pub mod Statements
+pub mod Texts
