@@ -18,3 +18,6 @@ mod top;
 mod words;
 
 pub use top::colo;
+
+#[cfg(test)]
+mod tests;
