@@ -1,0 +1,2 @@
+pub mod OverwriteLemmas
+pub mod RangeLemmas

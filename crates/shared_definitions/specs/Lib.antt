@@ -1,0 +1,5 @@
+pub mod Ascii
+pub mod FirstOf
+pub mod Halves
+pub mod Memory
+pub mod Overwrite
