@@ -3,14 +3,14 @@ use Rattle.std.proofs.Common.{◌≡◌, ℕ, ◌+◌, ◌-◌, ◌*◌, ◌/◌
 use Rattle.std.proofs.lemmas.List.{take_at, drop_at, take_all, drop-drop}
 use Rattle.std.specs.Int.{w16, w32, to_be_bytes}
 use Rattle.std.specs.List.{slice_range}
-use Rattle.inet_frame.specs.Counted.{tcp_in}
+use Rattle.inet_frame.specs.Counted.{guest_mac, tcp_in}
 use Rattle.inet_frame.specs.Fields.{TcpFields}
 use Rattle.inet_frame.specs.Frame.{IsSegment, fields_in}
-use Rattle.inet_frame.specs.Place.{two_at, four_at, datagram_end, data_offset}
+use Rattle.inet_frame.specs.Place.{be16_at, be32_at, datagram_end, data_offset}
 use Rattle.inet_frame.specs.Sum.{ones_sum, ones_add, pseudo_sum}
 use Rattle.inet_frame.proofs.OnesSum.{Bytes, ones_sum_fits, ones_add_fits, ones_sum_closed}
 use Rattle.inet_frame.proofs.Segments.{tcp_in_segment}
-use Rattle.inet_build.specs.Segment.{guest_mac, ipv4_type, addresses, ipv4_header, ipv4_checksum, mss_option, header_words, tcp_header, tcp_bytes, tcp_len, tcp_checksum, segment_bytes, fields_of, HeaderFits}
+use Rattle.inet_build.specs.Segment.{ipv4_type, addresses, ipv4_header, ipv4_checksum, mss_option, header_words, tcp_header, tcp_bytes, tcp_len, tcp_checksum, segment_bytes, fields_of, HeaderFits}
 use Rattle.inet_build.specs.declared.fields.Segment.{Segment}
 
 -- each number of the list is a byte, one by one
@@ -56,7 +56,7 @@ unfolding ipv4_header tcp_header
 built a b c d e f s payload isum csum h header_sum tcp_sum =
     let facts = option_facts s.mss in
     let frame = whole (a ∷ b ∷ c ∷ d ∷ e ∷ f ∷ []) s payload isum csum in
-    let total : two_at frame 16 ≡ 20 + tcp_len s payload = read_two (20 + tcp_len s payload) (omega arith) in
+    let total : be16_at frame 16 ≡ 20 + tcp_len s payload = read_two (20 + tcp_len s payload) (omega arith) in
     let len : length frame ≡ 14 + (20 + tcp_len s payload) = omega (arith, length-append (mss_option s.mss) payload) in
     let offset : data_offset frame 34 ≡ 4 * header_words s.mss = omega arith in
     let end : datagram_end frame ≡ 34 + tcp_len s payload = omega arith in
@@ -67,7 +67,7 @@ built a b c d e f s payload isum csum h header_sum tcp_sum =
       datagram = record {
         whole = omega arith;
         fits = omega arith;
-        is_ipv4 = refl;
+        type_is = refl;
         version_is = refl;
         header = omega arith;
         total = omega arith;
@@ -79,7 +79,7 @@ built a b c d e f s payload isum csum h header_sum tcp_sum =
         protocol_is = refl;
       };
       holds = record {
-        behind_ip = omega arith;
+        after_ip = omega arith;
         header = omega arith;
         payload = omega arith;
         within = omega arith;
@@ -95,16 +95,16 @@ unfolding ipv4_header tcp_header
 built_fields a b c d e f s payload isum csum mac h six client fits =
     let facts = option_facts s.mss in
     let frame = whole (a ∷ b ∷ c ∷ d ∷ e ∷ f ∷ []) s payload isum csum in
-    let total : two_at frame 16 ≡ 20 + tcp_len s payload = read_two (20 + tcp_len s payload) (omega arith) in
+    let total : be16_at frame 16 ≡ 20 + tcp_len s payload = read_two (20 + tcp_len s payload) (omega arith) in
     let offset : data_offset frame 34 ≡ 4 * header_words s.mss = omega arith in
     let dst_mac : slice_range frame 0 6 ≡ s.dst_mac = sym mac in
     let src_mac : slice_range frame 6 12 ≡ guest_mac = refl in
-    let dst : four_at frame 30 ≡ s.tuple.addr = read_four s.tuple.addr client in
-    let sport : two_at frame 34 ≡ s.tuple.guest = read_two s.tuple.guest fits.guest in
-    let dport : two_at frame 36 ≡ s.tuple.port = read_two s.tuple.port fits.port in
-    let seq : four_at frame 38 ≡ s.seq = read_four s.seq fits.seq in
-    let ack : four_at frame 42 ≡ s.ack = read_four s.ack fits.ack in
-    let window : two_at frame 48 ≡ s.window = read_two s.window fits.window in
+    let dst : be32_at frame 30 ≡ s.tuple.addr = read_four s.tuple.addr client in
+    let sport : be16_at frame 34 ≡ s.tuple.guest = read_two s.tuple.guest fits.guest in
+    let dport : be16_at frame 36 ≡ s.tuple.port = read_two s.tuple.port fits.port in
+    let seq : be32_at frame 38 ≡ s.seq = read_four s.seq fits.seq in
+    let ack : be32_at frame 42 ≡ s.ack = read_four s.ack fits.ack in
+    let window : be16_at frame 48 ≡ s.window = read_two s.window fits.window in
     let option_end : 34 + data_offset frame 34 - 54 ≡ length (mss_option s.mss) = omega arith in
     let options : slice_range frame 54 (34 + data_offset frame 34) ≡ mss_option s.mss =
     take_at (mss_option s.mss) payload (34 + data_offset frame 34 - 54) (sym option_end) in

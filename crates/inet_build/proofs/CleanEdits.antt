@@ -8,7 +8,7 @@ use Rattle.inet_frame.specs.Counted.{tcp_in}
 use Rattle.inet_frame.specs.Fields.{TcpFields}
 use Rattle.inet_frame.specs.Flags.{has_syn}
 use Rattle.inet_frame.specs.Frame.{IsSegment, fields_in}
-use Rattle.inet_frame.specs.Place.{four_at, header_end, datagram_end, data_offset}
+use Rattle.inet_frame.specs.Place.{be32_at, header_end, datagram_end, data_offset}
 use Rattle.inet_frame.proofs.OnesSum.{Bytes}
 use Rattle.inet_frame.proofs.Segments.{tcp_in_segment}
 use Rattle.inet_build.proofs.CleanOptions.{length-cleaned_options, cleaned_is_clean, cleaned_same}
@@ -91,7 +91,7 @@ rebuilt_parses b s bytes =
     let len = edit.len in
     let k = summed_keeps b (with_options b) s edit in
     let end = options_len b s in
-    let ack : four_at (rebuilt b) (header_end b + 8) ≡ four_at b (header_end b + 8) =
+    let ack : be32_at (rebuilt b) (header_end b + 8) ≡ be32_at b (header_end b + 8) =
     let at : (i : ℕ) → i < header_end b + 16 → get_or (rebuilt b) i 0 ≡ get_or b i 0 =
     λ i lt. summed_before (with_options b) (header_end b) (datagram_end b) i (omega arith) lt ∙ written_before b (header_end b + 20) (cleaned_options (options_in b)) i (omega arith) (omega arith) in
     let first = at (header_end b + 8) (omega arith) in
@@ -102,7 +102,7 @@ rebuilt_parses b s bytes =
     tcp_in_segment (rebuilt b) (edited_segment b (with_options b) s edit bytes)
     ∙ ap (λ (t : TcpFields). Some t)
     (edited_fields b (with_options b) s edit
-    ∙ same_fields b (rebuilt b) s k (rebuilt_between b s) (four_at b (header_end b + 8)) (cleaned_options (options_in b)) ack (rebuilt_options_at b s) (rebuilt_behind b s))
+    ∙ same_fields b (rebuilt b) s k (rebuilt_between b s) (be32_at b (header_end b + 8)) (cleaned_options (options_in b)) ack (rebuilt_options_at b s) (rebuilt_behind b s))
 
 cleaned_parses_by : (syn unwanted : Bool) (b : List ℕ) → IsSegment b → has_syn (get_or b (header_end b + 13) 0) ≡ syn → has_unwanted (options_in b) ≡ unwanted → Bytes (cleaned b) → tcp_in (cleaned b) ≡ Some (cond syn (record (fields_in b) { options = cleaned_options (options_in b) }) (fields_in b))
 cleaned_parses_by true true b s syn unwanted bytes =

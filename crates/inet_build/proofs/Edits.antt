@@ -7,7 +7,7 @@ use Rattle.std.specs.List.{slice_range}
 use Rattle.inet_frame.specs.Counted.{tcp_in}
 use Rattle.inet_frame.specs.Fields.{TcpFields, tcp_fields}
 use Rattle.inet_frame.specs.Frame.{IsDatagram, IsSegment, fields_in}
-use Rattle.inet_frame.specs.Place.{two_at, four_at, header_end, datagram_end, data_offset}
+use Rattle.inet_frame.specs.Place.{be16_at, be32_at, header_end, datagram_end, data_offset}
 use Rattle.inet_frame.specs.Sum.{ones_sum, ones_add, pseudo_sum}
 use Rattle.inet_frame.proofs.OnesSum.{Bytes, Bytes_range, ones_sum_fits, ones_add_fits, ones_sum_append, ones_sum_closed}
 use Rattle.inet_frame.proofs.Segments.{tcp_in_segment}
@@ -29,13 +29,13 @@ same_datagram_end b c k =
     let low = k.front 17 (omega arith) in
     omega arith
 
-same_two : (b c : List ℕ) (i : ℕ) → KeepsPlaces b c → i + 1 < header_end b + 8 → two_at c i ≡ two_at b i
+same_two : (b c : List ℕ) (i : ℕ) → KeepsPlaces b c → i + 1 < header_end b + 8 → be16_at c i ≡ be16_at b i
 same_two b c i k h =
     let high = k.front i (omega arith) in
     let low = k.front (i + 1) (omega arith) in
     omega arith
 
-same_four : (b c : List ℕ) (i : ℕ) → KeepsPlaces b c → i + 3 < header_end b + 8 → four_at c i ≡ four_at b i
+same_four : (b c : List ℕ) (i : ℕ) → KeepsPlaces b c → i + 3 < header_end b + 8 → be32_at c i ≡ be32_at b i
 same_four b c i k h =
     let first = k.front i (omega arith) in
     let second = k.front (i + 1) (omega arith) in
@@ -61,7 +61,7 @@ kept_datagram b c d k =
     record {
       whole = omega (arith, d.whole);
       fits = omega (arith, d.fits);
-      is_ipv4 = kind ∙ d.is_ipv4;
+      type_is = kind ∙ d.type_is;
       version_is = ap (λ (n : ℕ). n / 16) version ∙ d.version_is;
       header = omega (arith, d.header);
       total = omega (arith, d.total);
@@ -85,7 +85,7 @@ kept_segment b c s k sum =
     record {
       datagram = d;
       holds = record {
-        behind_ip = omega (arith, hold.behind_ip);
+        after_ip = omega (arith, hold.after_ip);
         header = omega (arith, hold.header);
         payload = omega (arith, hold.payload);
         within = omega (arith, hold.within);
@@ -188,7 +188,7 @@ pub places : (b : List ℕ) → IsSegment b → (34 ≤ header_end b) × (header
 places b s =
     let d = s.datagram in
     let h = s.holds in
-    (h.behind_ip, omega (arith, h.header), h.payload, h.within, omega (arith, h.within, h.short))
+    (h.after_ip, omega (arith, h.header), h.payload, h.within, omega (arith, h.within, h.short))
 
 -- an edit from a place behind the sequence number on that spares the header's length, and then a new checksum
 pub record Edited (b c : List ℕ) : Type 0 where
@@ -221,7 +221,7 @@ edited_fields b c s edit =
     ∙ ap (λ (e : ℕ). tcp_fields (summed c (header_end b) (datagram_end b)) (header_end b) e) (same_datagram_end b (summed c (header_end b) (datagram_end b)) k)
 
 -- the fields of bytes that keep all but the acknowledgement, the checksum and the options
-pub same_fields : (b f : List ℕ) → IsSegment b → KeepsPlaces b f → ((i : ℕ) → header_end b + 12 ≤ i → i < header_end b + 16 → get_or f i 0 ≡ get_or b i 0) → (ack : ℕ) (options : List ℕ) → four_at f (header_end b + 8) ≡ ack → slice_range f (header_end b + 20) (header_end b + data_offset f (header_end b)) ≡ options → ((i : ℕ) → header_end b + data_offset b (header_end b) ≤ i → get_or f i 0 ≡ get_or b i 0) → tcp_fields f (header_end b) (datagram_end b) ≡ record (fields_in b) { ack = ack; options = options }
+pub same_fields : (b f : List ℕ) → IsSegment b → KeepsPlaces b f → ((i : ℕ) → header_end b + 12 ≤ i → i < header_end b + 16 → get_or f i 0 ≡ get_or b i 0) → (ack : ℕ) (options : List ℕ) → be32_at f (header_end b + 8) ≡ ack → slice_range f (header_end b + 20) (header_end b + data_offset f (header_end b)) ≡ options → ((i : ℕ) → header_end b + data_offset b (header_end b) ≤ i → get_or f i 0 ≡ get_or b i 0) → tcp_fields f (header_end b) (datagram_end b) ≡ record (fields_in b) { ack = ack; options = options }
 same_fields b f s k between ack options ack_is options_is behind =
     let p = places b s in
     let dst_mac = same_range b f 0 6 k (omega arith) in
@@ -234,7 +234,7 @@ same_fields b f s k between ack options ack_is options_is behind =
     let flags = between (header_end b + 13) (omega arith) (omega arith) in
     let high = between (header_end b + 14) (omega arith) (omega arith) in
     let low = between (header_end b + 14 + 1) (omega arith) (omega arith) in
-    let window : two_at f (header_end b + 14) ≡ two_at b (header_end b + 14) = omega arith in
+    let window : be16_at f (header_end b + 14) ≡ be16_at b (header_end b + 14) = omega arith in
     let offset : data_offset f (header_end b) ≡ data_offset b (header_end b) = ap (λ (n : ℕ). 4 * (n / 16)) k.offset in
     let payload : slice_range f (header_end b + data_offset f (header_end b)) (datagram_end b) ≡ slice_range b (header_end b + data_offset b (header_end b)) (datagram_end b) =
     ap (λ (n : ℕ). slice_range f (header_end b + n) (datagram_end b)) offset
@@ -243,7 +243,7 @@ same_fields b f s k between ack options ack_is options_is behind =
 
 -- the acknowledgement's four bytes
 abbrev raised : List ℕ → ℕ → List ℕ
-raised b by = to_be_bytes w32 ((four_at b (header_end b + 8) + by) % 2 ^ 32)
+raised b by = to_be_bytes w32 ((be32_at b (header_end b + 8) + by) % 2 ^ 32)
 
 abbrev with_ack : List ℕ → ℕ → List ℕ
 with_ack b by = written b (header_end b + 8) (raised b by)
@@ -257,11 +257,11 @@ shift_edits b by s =
       middle = λ i ge lt. written_behind b (header_end b + 8) (raised b by) i (omega arith) (omega arith);
     }
 
-four_read : (b : List ℕ) (by : ℕ) → IsSegment b → four_at (summed (with_ack b by) (header_end b) (datagram_end b)) (header_end b + 8) ≡ (four_at b (header_end b + 8) + by) % 2 ^ 32
+four_read : (b : List ℕ) (by : ℕ) → IsSegment b → be32_at (summed (with_ack b by) (header_end b) (datagram_end b)) (header_end b + 8) ≡ (be32_at b (header_end b + 8) + by) % 2 ^ 32
 four_read b by s =
     let p = places b s in
     let h = header_end b in
-    let n = (four_at b (header_end b + 8) + by) % 2 ^ 32 in
+    let n = (be32_at b (header_end b + 8) + by) % 2 ^ 32 in
     let c = with_ack b by in
     let len = length-written b (header_end b + 8) (raised b by) (omega arith) in
     let read : (i : ℕ) → header_end b + 8 ≤ i → i < header_end b + 12 → get_or (summed (with_ack b by) (header_end b) (datagram_end b)) i 0 ≡ get_or (raised b by) (i - (header_end b + 8)) 0 =
@@ -372,9 +372,9 @@ shifted_twice b by more s =
     λ i ge lt. summed_before (with_ack b by) (header_end b) (datagram_end b) i (omega arith) lt ∙ written_behind b (header_end b + 8) (raised b by) i (omega arith) (omega arith) in
     let behind : (i : ℕ) → header_end b + 18 ≤ i → get_or (summed (with_ack b by) (header_end b) (datagram_end b)) i 0 ≡ get_or b i 0 =
     λ i ge. summed_behind (with_ack b by) (header_end b) (datagram_end b) i (omega arith) ge ∙ written_behind b (header_end b + 8) (raised b by) i (omega arith) (omega arith) in
-    let sum : (four_at (summed (with_ack b by) (header_end b) (datagram_end b)) (header_end b + 8) + more) % 2 ^ 32 ≡ (four_at b (header_end b + 8) + (by + more)) % 2 ^ 32 =
+    let sum : (be32_at (summed (with_ack b by) (header_end b) (datagram_end b)) (header_end b + 8) + more) % 2 ^ 32 ≡ (be32_at b (header_end b + 8) + (by + more)) % 2 ^ 32 =
     ap (λ (n : ℕ). (n + more) % 2 ^ 32) (four_read b by s) ∙ omega arith in
-    ap (λ (h : ℕ). shift_at (summed (with_ack b by) (header_end b) (datagram_end b)) ((four_at (summed (with_ack b by) (header_end b) (datagram_end b)) (h + 8) + more) % 2 ^ 32) h (datagram_end (summed (with_ack b by) (header_end b) (datagram_end b)))) he
-    ∙ (ap (λ (e : ℕ). shift_at (summed (with_ack b by) (header_end b) (datagram_end b)) ((four_at (summed (with_ack b by) (header_end b) (datagram_end b)) (header_end b + 8) + more) % 2 ^ 32) (header_end b) e) de
+    ap (λ (h : ℕ). shift_at (summed (with_ack b by) (header_end b) (datagram_end b)) ((be32_at (summed (with_ack b by) (header_end b) (datagram_end b)) (h + 8) + more) % 2 ^ 32) h (datagram_end (summed (with_ack b by) (header_end b) (datagram_end b)))) he
+    ∙ (ap (λ (e : ℕ). shift_at (summed (with_ack b by) (header_end b) (datagram_end b)) ((be32_at (summed (with_ack b by) (header_end b) (datagram_end b)) (header_end b + 8) + more) % 2 ^ 32) (header_end b) e) de
     ∙ (ap (λ (n : ℕ). shift_at (summed (with_ack b by) (header_end b) (datagram_end b)) n (header_end b) (datagram_end b)) sum
-    ∙ shift_again b (summed (with_ack b by) (header_end b) (datagram_end b)) ((four_at b (header_end b + 8) + (by + more)) % 2 ^ 32) (header_end b) (datagram_end b) (omega arith) k.len k.front between behind))
+    ∙ shift_again b (summed (with_ack b by) (header_end b) (datagram_end b)) ((be32_at b (header_end b + 8) + (by + more)) % 2 ^ 32) (header_end b) (datagram_end b) (omega arith) k.len k.front between behind))

@@ -3,7 +3,7 @@ use Rattle.std.specs.Prelude.{ℕ, ◌+◌, ◌-◌, ◌%◌, ◌^◌, Bool, ◌
 use Rattle.std.specs.Int.{w16, w32, to_be_bytes}
 use Rattle.inet_frame.specs.Fields.{TcpFields}
 use Rattle.inet_frame.specs.Flags.{has_syn}
-use Rattle.inet_frame.specs.Place.{four_at, header_end, datagram_end, data_offset}
+use Rattle.inet_frame.specs.Place.{be32_at, header_end, datagram_end, data_offset}
 use Rattle.inet_frame.specs.Sum.{ones_sum, pseudo_sum}
 use Rattle.inet_build.specs.Options.{has_unwanted, cleaned_options}
 
@@ -25,7 +25,7 @@ summed b h e = written (unsummed b h) (h + 16) (to_be_bytes w16 (0xFFFF - sum_be
 
 -- the acknowledgement raised by a number modulo 2^32, and the checksum made anew
 unfoldable pub shifted : List ℕ → ℕ → List ℕ
-shifted b by = summed (written b (header_end b + 8) (to_be_bytes w32 ((four_at b (header_end b + 8) + by) % 2 ^ 32))) (header_end b) (datagram_end b)
+shifted b by = summed (written b (header_end b + 8) (to_be_bytes w32 ((be32_at b (header_end b + 8) + by) % 2 ^ 32))) (header_end b) (datagram_end b)
 
 -- the options' bytes
 abbrev pub options_in : List ℕ → List ℕ

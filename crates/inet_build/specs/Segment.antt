@@ -1,14 +1,10 @@
 -- The bytes of a TCP segment from the guest in IPv4 in Ethernet, without padding (IEEE 802.3, 3.1.1; RFC 791, 3.1; RFC 9293, 3.1).
 use Rattle.std.specs.Prelude.{ℕ, ◌+◌, ◌-◌, ◌*◌, ◌^◌, ◌<◌, List, [], ◌∷◌, ◌++◌, length, Option, None, Some}
 use Rattle.std.specs.Int.{w16, w32, to_be_bytes}
-use Rattle.inet_frame.specs.Counted.{guest_address}
+use Rattle.inet_frame.specs.Counted.{guest_address, guest_mac}
 use Rattle.inet_frame.specs.Fields.{TcpFields}
 use Rattle.inet_frame.specs.Sum.{ones_sum, pseudo_sum}
 use Rattle.inet_build.specs.declared.fields.Segment.{Segment}
-
--- the guest's MAC address, 52:54:00:12:34:56
-abbrev pub guest_mac : List ℕ
-guest_mac = 0x52 ∷ 0x54 ∷ 0x00 ∷ 0x12 ∷ 0x34 ∷ 0x56 ∷ []
 
 -- the type of IPv4
 abbrev pub ipv4_type : List ℕ

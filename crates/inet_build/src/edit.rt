@@ -5,7 +5,7 @@ ghost use Rattle.inet_frame.specs.Frame.{IsSegment};
 ghost use Rattle.inet_build.specs.Edit as spec;
 
 use crate::options::clean_options;
-use inet_frame::place::{self, data_offset, four};
+use inet_frame::place::{self, be32, data_offset};
 use inet_frame::{flag, ones_sum, protocol, pseudo_sum};
 
 /// Overwrites, in a segment with SYN, the options window scale, selective acknowledgements
@@ -57,7 +57,7 @@ fn shift(frame: &mut [u8], by: u32)
     let header_end = place::header_end(frame);
     let end = place::datagram_end(frame);
     let at = header_end + 8;
-    let ack = four(frame, at).wrapping_add(by);
+    let ack = be32(frame, at).wrapping_add(by);
     put(frame, at, &ack.to_be_bytes());
     sum_anew(frame, header_end, end);
 }

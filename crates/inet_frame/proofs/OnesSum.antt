@@ -1,5 +1,28 @@
 -- Laws of the one's complement sum (RFC 1071, 2).
-use Rattle.std.proofs.Common.{◌≡◌, ℕ, ◌+◌, ◌-◌, ◌*◌, ◌<◌, ◌≤◌, zero, suc, List, [], ◌∷◌, ◌++◌, length, get_or, take, drop, refl, ap, ◌∙◌, arith, ⊎_elim}
+use Rattle.std.proofs.Common.{
+  ◌≡◌,
+  ℕ,
+  ◌+◌,
+  ◌-◌,
+  ◌*◌,
+  ◌<◌,
+  ◌≤◌,
+  zero,
+  suc,
+  List,
+  [],
+  ◌∷◌,
+  ◌++◌,
+  length,
+  get_or,
+  take,
+  drop,
+  refl,
+  ap,
+  ◌∙◌,
+  arith,
+  ⊎_elim,
+}
 use Rattle.std.proofs.lemmas.Bool.{cases_lt}
 use Rattle.std.proofs.lemmas.Bool.Decides.{nat_tests}
 use Rattle.std.proofs.lemmas.List.{get_or-take, get_or-drop, get_or_past, length-take}
@@ -36,7 +59,10 @@ Words (w ∷ ws) = (w < 65536) × Words ws
 words_fit : (xs : List ℕ) → Bytes xs → Words (words xs)
 words_fit [] h = tt
 words_fit (x ∷ []) h = let hx = h 0 in (omega arith, tt)
-words_fit (x ∷ y ∷ xs) h = let hx = h 0 in let hy = h 1 in (omega arith, words_fit xs (Bytes_tail y xs (Bytes_tail x (y ∷ xs) h)))
+words_fit (x ∷ y ∷ xs) h = let hx = h 0 in let hy = h 1 in (
+  omega arith,
+  words_fit xs (Bytes_tail y xs (Bytes_tail x (y ∷ xs) h)),
+)
 
 pub ones_add_fits : (a b : ℕ) → a < 65536 → b < 65536 → ones_add a b < 65536
 ones_add_fits a b ha hb = grind (arith, nat_tests)
@@ -54,7 +80,8 @@ fold_fits : (ws : List ℕ) (a : ℕ) → a < 65536 → Words ws → fold ones_a
 fold_fits [] a ha h = ha
 fold_fits (w ∷ ws) a ha h = fold_fits ws (ones_add a w) (ones_add_fits a w ha h.0) h.1
 
-fold_moved : (ws : List ℕ) (a w : ℕ) → a < 65536 → w < 65536 → Words ws → fold ones_add (ones_add a w) ws ≡ ones_add (fold ones_add a ws) w
+fold_moved : (ws : List ℕ) (a w : ℕ) → a < 65536 → w < 65536 → Words ws →
+    fold ones_add (ones_add a w) ws ≡ ones_add (fold ones_add a ws) w
 fold_moved [] a w ha hw h = refl
 fold_moved (x ∷ ws) a w ha hw h =
     ap (λ (s : ℕ). fold ones_add s ws) (ones_add_swap a w x ha hw h.0)
@@ -64,7 +91,8 @@ pub ones_sum_fits : (s : ℕ) (xs : List ℕ) → s < 65536 → Bytes xs → one
 ones_sum_fits s xs hs h = fold_fits (words xs) s hs (words_fit xs h)
 
 -- a front of an even length may be summed first
-pub ones_sum_append : (n s : ℕ) (xs ys : List ℕ) → length xs ≡ n + n → ones_sum s (xs ++ ys) ≡ ones_sum (ones_sum s xs) ys
+pub ones_sum_append : (n s : ℕ) (xs ys : List ℕ) → length xs ≡ n + n →
+    ones_sum s (xs ++ ys) ≡ ones_sum (ones_sum s xs) ys
 ones_sum_append zero s [] ys e = refl
 ones_sum_append zero s (x ∷ xs) ys e = absurd (omega arith)
 ones_sum_append (suc n) s [] ys e = absurd (omega arith)
@@ -72,7 +100,8 @@ ones_sum_append (suc n) s (x ∷ []) ys e = absurd (omega arith)
 ones_sum_append (suc n) s (x ∷ y ∷ xs) ys e = ones_sum_append n (ones_add s (x * 256 + y)) xs ys (omega arith)
 
 -- a word that is the complement of the sum with 0 in its place makes the sum 0xFFFF
-pub ones_sum_closed : (s high low : ℕ) (ys : List ℕ) → s < 65536 → Bytes ys → high * 256 + low ≡ 65535 - ones_sum s (0 ∷ 0 ∷ ys) → ones_sum s (high ∷ low ∷ ys) ≡ 65535
+pub ones_sum_closed : (s high low : ℕ) (ys : List ℕ) → s < 65536 → Bytes ys →
+    high * 256 + low ≡ 65535 - ones_sum s (0 ∷ 0 ∷ ys) → ones_sum s (high ∷ low ∷ ys) ≡ 65535
 ones_sum_closed s high low ys hs h e =
     let ws = words ys in
     let fits = words_fit ys h in

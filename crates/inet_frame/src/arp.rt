@@ -1,7 +1,9 @@
+//! ARP requests and the replies to them (RFC 826).
+
 ghost use Rattle.std.specs.Prelude.{◌≡◌, ◌+◌, ◌≤◌, ◌++◌, length, take};
 ghost use Rattle.inet_frame.specs.Arp.{reply_bytes};
 
-use crate::place::four;
+use crate::place::be32;
 use std::marker::Model;
 
 /// An ARP request for an IPv4 address. Its parts are slices of the frame that was parsed (RFC 826).
@@ -43,14 +45,14 @@ impl<'a> ArpView<'a> {
     pub fn sender(&self) -> u32
         ensures { result ≡ self.now.sender }
     {
-        four(self.frame, 28)
+        be32(self.frame, 28)
     }
 
     /// The IPv4 address that is asked for.
     pub fn target(&self) -> u32
         ensures { result ≡ self.now.target }
     {
-        four(self.frame, 38)
+        be32(self.frame, 38)
     }
 }
 

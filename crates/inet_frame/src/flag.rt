@@ -1,6 +1,6 @@
-//! The flags of a TCP header (RFC 9293, 3.1).
+//! The flags of a TCP header, by their bits (RFC 9293, 3.1). `TcpView` has a test for each.
 
-/// The sender's stream ends behind this segment.
+/// The sender's stream ends after this segment.
 pub const FIN: u8 = 1;
 /// The sequence number is the sender's first.
 pub const SYN: u8 = 2;

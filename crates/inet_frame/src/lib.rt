@@ -16,6 +16,7 @@
 
 mod arp;
 pub mod flag;
+mod ipv4;
 mod options;
 mod parser;
 pub mod place;
@@ -27,11 +28,11 @@ mod udp;
 mod why;
 
 pub use arp::{ArpView, arp_reply};
-pub use options::{NO_OPERATION, option_len};
-pub use parser::{Seen, is_tcp, parse};
+pub use options::{NO_OPERATION, mss, option_len};
+pub use parser::{Seen, counted, is_arp, is_tcp, parse};
 pub use sum::{ones_sum, pseudo_sum};
 pub use tcp::TcpView;
-pub use tuple::{GUEST_ADDRESS, GUEST_MAC, Tuple};
+pub use tuple::{GUEST_ADDRESS, GUEST_MAC, Tuple, guest_is_known};
 pub use udp::UdpView;
 pub use why::Why;
 

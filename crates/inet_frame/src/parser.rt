@@ -1,12 +1,15 @@
+//! What a frame is, by the first test that drops it or by its type and protocol.
+
 ghost use Rattle.std.specs.Prelude.{◌≡◌, ◌≤◌, length, is_some};
-ghost use Rattle.inet_frame.specs.Counted.{tcp_in};
-ghost use Rattle.inet_frame.specs.Frame.{seen_of, IsOfType, IsDatagram, transport_sum, is_other_arp};
+ghost use Rattle.inet_frame.specs.Counted.{tcp_in, counted};
+ghost use Rattle.inet_frame.specs.Frame.{seen_of, IsOfType, IsDatagram, transport_sum, is_arp, is_other_arp};
 
 use crate::arp::ArpView;
-use crate::place::{ETHERNET_HEADER, data_offset, header_len, total_len, two};
+use crate::place::{ETHERNET_HEADER, be16, data_offset, header_len, total_len};
 use crate::protocol;
 use crate::sum::{ones_sum, pseudo_sum};
 use crate::tcp::TcpView;
+use crate::tuple::GUEST_ADDRESS;
 use crate::udp::UdpView;
 use crate::why::Why;
 
@@ -23,13 +26,14 @@ pub enum Seen<'a> {
     Other(Why),
 }
 
+/// The type of a frame that holds an IPv4 datagram (RFC 894).
 const TYPE_IPV4: u16 = 0x0800;
-
+/// The type of a frame that holds an ARP packet (RFC 826).
 const TYPE_ARP: u16 = 0x0806;
 
 /// The longest frame: an Ethernet header and 1,500 bytes (IEEE 802.3, 3.2.7).
 const LONGEST: usize = 1514;
-/// An ARP packet for IPv4 behind its Ethernet header (RFC 826).
+/// An ARP packet for IPv4 after its Ethernet header (RFC 826).
 const ARP_FRAME: usize = 42;
 /// An IPv4 header without options (RFC 791, 3.1).
 const IPV4_HEADER: usize = 20;
@@ -53,7 +57,7 @@ pub fn parse<'a>(frame: &'a [u8]) -> Seen<'a>
     if frame.len() > LONGEST {
         return Seen::Other(Why::LONG);
     }
-    match two(frame, 12) {
+    match be16(frame, 12) {
         TYPE_ARP => arp(frame),
         TYPE_IPV4 => ipv4(frame),
         _ => Seen::Other(Why::OTHER_TYPE),
@@ -70,6 +74,31 @@ pub fn is_tcp(frame: &[u8]) -> bool
     }
 }
 
+/// Says whether a frame counts: a TCP segment from the guest's address. It takes no memory.
+pub fn counted<'a>(frame: &'a [u8]) -> Option<TcpView<'a>>
+    ensures { result ≡ counted frame.now }
+{
+    match parse(frame) {
+        Seen::Tcp(view) => {
+            if view.src() == GUEST_ADDRESS {
+                Some(view)
+            } else {
+                None
+            }
+        }
+        Seen::Arp(_) | Seen::Udp(_) | Seen::Other(_) => None,
+    }
+}
+
+/// Says whether a frame's type is ARP's, 0x0806, whatever it holds (RFC 826). A frame that is too
+/// short for a type has none.
+pub fn is_arp(frame: &[u8]) -> bool
+    ensures { result ≡ is_arp frame.now }
+{
+    frame.len() >= ETHERNET_HEADER && be16(frame, 12) == TYPE_ARP
+}
+
+/// Says what a frame with the type of ARP is.
 #[tactic(auto, using(std::proofs::lemmas::Bool::Decides::nat_tests), unfolding(crate::specs::Frame::seen_of))]
 fn arp<'a>(frame: &'a [u8]) -> Seen<'a>
     requires { IsOfType frame.now 0x0806 }
@@ -86,13 +115,14 @@ fn is_other_arp(frame: &[u8]) -> bool
     requires { 42 ≤ length frame.now }
     ensures { result ≡ is_other_arp frame.now }
 {
-    two(frame, 14) != 1
-        || two(frame, 16) != TYPE_IPV4
+    be16(frame, 14) != 1
+        || be16(frame, 16) != TYPE_IPV4
         || frame[18] != 6
         || frame[19] != 4
-        || two(frame, 20) != 1
+        || be16(frame, 20) != 1
 }
 
+/// Says what a frame with the type of IPv4 is.
 #[tactic(auto, using(std::proofs::lemmas::Bool::Decides::nat_tests), unfolding(crate::specs::Frame::seen_of))]
 fn ipv4<'a>(frame: &'a [u8]) -> Seen<'a>
     requires { IsOfType frame.now 0x0800 }
@@ -111,7 +141,7 @@ fn ipv4<'a>(frame: &'a [u8]) -> Seen<'a>
     if ones_sum(0, &frame[ETHERNET_HEADER..header_end]) != RIGHT_SUM {
         return Seen::Other(Why::BAD_HEADER_SUM);
     }
-    if two(frame, 20) % 0x4000 != 0 {
+    if be16(frame, 20) % 0x4000 != 0 {
         return Seen::Other(Why::FRAGMENT);
     }
     match frame[23] {
@@ -121,6 +151,7 @@ fn ipv4<'a>(frame: &'a [u8]) -> Seen<'a>
     }
 }
 
+/// Says what a frame with a TCP segment in a whole IPv4 datagram is.
 #[tactic(auto, using(std::proofs::lemmas::Bool::Decides::nat_tests), unfolding(crate::specs::Frame::seen_of))]
 fn tcp<'a>(frame: &'a [u8], header_end: usize, data_end: usize) -> Seen<'a>
     requires { IsDatagram frame.now header_end data_end 6 }
@@ -139,16 +170,17 @@ fn tcp<'a>(frame: &'a [u8], header_end: usize, data_end: usize) -> Seen<'a>
     Seen::Tcp(TcpView::new(frame, header_end, data_end))
 }
 
+/// Says what a frame with a UDP datagram in a whole IPv4 datagram is.
 #[tactic(auto, using(std::proofs::lemmas::Bool::Decides::nat_tests), unfolding(crate::specs::Frame::seen_of))]
 fn udp<'a>(frame: &'a [u8], header_end: usize, data_end: usize) -> Seen<'a>
     requires { IsDatagram frame.now header_end data_end 17 }
     ensures { result ≡ seen_of frame.now }
 {
     let len = data_end - header_end;
-    if len < UDP_HEADER || usize::from(two(frame, header_end + 4)) != len {
+    if len < UDP_HEADER || usize::from(be16(frame, header_end + 4)) != len {
         return Seen::Other(Why::BAD_UDP);
     }
-    if two(frame, header_end + 6) != 0
+    if be16(frame, header_end + 6) != 0
         && transport_sum(frame, protocol::UDP, header_end, data_end) != RIGHT_SUM
     {
         return Seen::Other(Why::BAD_UDP_SUM);

@@ -1,9 +1,11 @@
+//! The Internet checksum (RFC 1071).
+
 ghost use Rattle.std.specs.Prelude.{◌≡◌};
-ghost use Rattle.inet_frame.specs.Sum as spec;
+ghost use Rattle.inet_frame.specs.Sum.{ones_add, ones_sum, pseudo_sum};
 
 /// The one's complement sum of two 16-bit words (RFC 1071).
 fn ones_add(a: u16, b: u16) -> u16
-    ensures { result ≡ spec.ones_add a b }
+    ensures { result ≡ ones_add a b }
 {
     let sum = u32::from(a) + u32::from(b);
     if sum < 65536 {
@@ -16,7 +18,7 @@ fn ones_add(a: u16, b: u16) -> u16
 /// The one's complement sum of `start` and the 16-bit words of `bytes` in network order, an odd
 /// last byte being filled by a zero byte (RFC 1071, 1). It takes no memory.
 pub fn ones_sum(start: u16, bytes: &[u8]) -> u16
-    ensures { result ≡ spec.ones_sum start bytes.now }
+    ensures { result ≡ ones_sum start bytes.now }
 {
     let mut sum = start;
     let mut rest = bytes;
@@ -31,10 +33,10 @@ pub fn ones_sum(start: u16, bytes: &[u8]) -> u16
 }
 
 /// The sum of the pseudo header's words: `addresses` are the source's and the destination's bytes
-/// as they stand in the IPv4 header, and `len` counts the bytes behind that header (RFC 9293, 3.1;
+/// as they stand in the IPv4 header, and `len` counts the bytes after that header (RFC 9293, 3.1;
 /// RFC 768).
 pub fn pseudo_sum(addresses: &[u8], protocol: u8, len: u16) -> u16
-    ensures { result ≡ spec.pseudo_sum addresses.now protocol len }
+    ensures { result ≡ pseudo_sum addresses.now protocol len }
 {
     ones_add(ones_add(ones_sum(0, addresses), u16::from(protocol)), len)
 }

@@ -1,3 +1,5 @@
+//! Frames by hand: their parts, and a drop number each.
+
 use super::*;
 use std::alloc::{AllocError, Global};
 use std::test::Fail;
@@ -13,7 +15,7 @@ const TCP: [u8; 82] = [
     0xEE, 0xEE,
 ];
 
-/// From port 68 to port 67: `abc` behind an IPv4 header with four bytes of options, no checksum,
+/// From port 68 to port 67: `abc` after an IPv4 header with four bytes of options, no checksum,
 /// and padding.
 const UDP: [u8; 60] = [
     0x52, 0x54, 0x00, 0x12, 0x34, 0x56, 0x52, 0x54, 0x00, 0xAA, 0x00, 0x01, 0x08, 0x00, 0x46, 0x00,
@@ -93,6 +95,12 @@ fn views_hand_out_the_parts(rt: HostRuntime) {
         assert_eq!(rt; (view.sport(), view.dport()), (40000, 7));
         assert_eq!(rt; (view.seq(), view.ack()), (1000, 0xDEAD_BEEF));
         assert_eq!(rt; (view.flags(), view.window()), (0x1A, 4096));
+        assert_eq!(rt;
+            (view.has_syn(), view.has_psh(), view.has_ack()),
+            (true, true, true)
+        );
+        assert_eq!(rt; (view.has_fin(), view.has_rst()), (false, false));
+        assert_eq!(rt; mss(view.options()), 1460);
         assert_eq!(rt; view.options(), &TCP[54..74]);
         assert_eq!(rt; view.payload(), b"hello".as_slice());
     } else {
@@ -148,14 +156,32 @@ fn an_option_takes_its_stated_length(rt: HostRuntime) {
     }
 }
 
+/// The client's segment does not count; with the addresses exchanged it comes from the guest. The
+/// sums stay, since only words change places.
 #[test]
-fn numbers_stand_at_their_places(rt: HostRuntime) {
-    assert_eq!(rt; place::two(&UDP, 12), 0x0800);
-    assert_eq!(rt; place::four(&UDP, 26), 0x0A00_0202);
-    assert_eq!(rt; (place::header_len(&UDP), place::total_len(&UDP)), (24, 35));
-    assert_eq!(rt; place::data_offset(&TCP, 34), 40);
+fn a_frame_of_the_guest_counts(rt: HostRuntime) {
+    assert!(rt; is_tcp(&TCP));
+    assert!(rt; counted(&TCP).is_none());
+    let mut frame = TCP;
+    frame[26..34].copy_from_slice(&[0x0A, 0x00, 0x02, 0x0F, 0x0A, 0x00, 0x02, 0x02]);
+    frame[34..38].copy_from_slice(&[0x00, 0x07, 0x9C, 0x40]);
+    let wanted = Tuple {
+        addr: 0x0A00_0202,
+        port: 40000,
+        guest: 7,
+    };
+    if let Some(view) = counted(&frame) {
+        assert_eq!(rt; view.tuple(), wanted);
+    } else {
+        assert!(rt; false);
+    }
+    if let Seen::Tcp(view) = parse(&TCP) {
+        assert_eq!(rt; view.client_tuple(), wanted);
+    } else {
+        assert!(rt; false);
+    }
     assert_eq!(rt;
-        (is_tcp(&TCP), is_tcp(&UDP), is_tcp(&ARP)),
-        (true, false, false)
+        (is_arp(&ARP), is_arp(&ARP_REPLY), is_arp(&frame)),
+        (true, true, false)
     );
 }

@@ -1,3 +1,8 @@
+//! The guest's addresses, and the names of its connections.
+
+ghost use Rattle.std.specs.Prelude.{◌≡◌};
+ghost use Rattle.inet_frame.specs.Counted.{guest_address, guest_mac};
+
 /// The guest's IPv4 address, 10.0.2.15.
 pub const GUEST_ADDRESS: u32 = 0x0A00_020F;
 
@@ -11,3 +16,9 @@ pub struct Tuple {
     pub port: u16,
     pub guest: u16,
 }
+
+/// A law: both constants are the guest's addresses.
+pub fn guest_is_known()
+    ensures address { GUEST_ADDRESS ≡ guest_address }
+    ensures mac { GUEST_MAC ≡ guest_mac }
+{}

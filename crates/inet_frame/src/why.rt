@@ -1,3 +1,5 @@
+//! Why a frame is dropped.
+
 /// Why a frame is neither TCP, UDP nor an ARP request: the number of the first reason that holds.
 /// Layers above may have reasons of their own, with greater numbers.
 #[derive(Clone, Copy, PartialEq, Eq, Debug)]
