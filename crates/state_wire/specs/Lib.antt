@@ -1,0 +1,4 @@
+pub mod Guest
+pub mod Load
+pub mod Run
+pub mod Script
