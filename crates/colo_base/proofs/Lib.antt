@@ -1,2 +1,2 @@
-pub mod Clocks
-pub mod States
+pub mod ClockLemmas
+pub mod StateLemmas

@@ -1,10 +1,10 @@
--- The counts by which the outside shows its faults.
+-- The counts by which the outside shows its failures.
 use Rattle.std.specs.Prelude.{ℕ, ◌+◌, ◌-◌, ◌^◌, ◌≤◌, min}
 
--- A count after one more. It ends at 2 ^ 64 - 1.
-abbrev pub risen : ℕ → ℕ
-risen before = min (before + 1) (2 ^ 64 - 1)
+-- a count after one more: it ends at 2 ^ 64 - 1
+abbrev pub incremented : ℕ → ℕ
+incremented before = min (before + 1) (2 ^ 64 - 1)
 
--- A count rose by at least one. Where it stands at its end afterwards it counts as risen.
-abbrev pub Rose : ℕ → ℕ → Type 0
-Rose before now = risen before ≤ now
+-- a count went up by at least one; where it stands at its end afterwards it counts as increased
+abbrev pub Increased : ℕ → ℕ → Type 0
+Increased before now = incremented before ≤ now

@@ -4,6 +4,6 @@ pub mod Link
 pub mod Sink
 pub mod Clock
 pub mod Bytes
-pub mod Plan
-pub mod Script
+pub mod FailurePlan
+pub mod Incoming
 pub mod InMemory

@@ -2,25 +2,25 @@
 use Rattle.std.specs.Prelude.{◌≡◌, ℕ, ◌≤◌, Bool, IsTrue, List, ◌++◌}
 use Rattle.std.specs.Io.{StartsWith}
 
--- A sink at one moment.
+-- a sink at one moment
 pub record SinkState : Type 0 where
-  -- whether the sink tells the bytes put
-  pub told : Bool
-  -- the bytes put, where they are told
+  -- whether the bytes put can be observed
+  pub observable : Bool
+  -- the bytes put, where they can be observed
   pub bytes : List ℕ
   -- how many puts failed
   pub faults : ℕ
 
--- The count doesn't fall, and whether the sink tells stays.
+-- the count doesn't fall, and whether the bytes can be observed stays
 pub record SinkGoesOn (old new : SinkState) : Type 0 where
-  pub told : new.told ≡ old.told
+  pub observable : new.observable ≡ old.observable
   pub faults : old.faults ≤ new.faults
 
--- The bytes were put.
+-- the bytes were put
 abbrev pub Puts : SinkState → SinkState → List ℕ → Type 0
-Puts old new put = IsTrue old.told → new.bytes ≡ old.bytes ++ put
+Puts old new put = IsTrue old.observable → new.bytes ≡ old.bytes ++ put
 
--- A prefix of the bytes was put.
+-- a prefix of the bytes was put
 abbrev pub PutsPart : SinkState → SinkState → List ℕ → Type 0
 PutsPart old new put =
-    IsTrue old.told → (part : List ℕ) × StartsWith put part × (new.bytes ≡ old.bytes ++ part)
+    IsTrue old.observable → (part : List ℕ) × StartsWith put part × (new.bytes ≡ old.bytes ++ part)

@@ -1,4 +1,4 @@
-//! The faults that carry nothing but their name, and the causes of a checkpoint.
+//! The errors that carry nothing but their name, and the causes of a checkpoint.
 
 use std::alloc::{AllocError, AllocFailed};
 

@@ -1,4 +1,4 @@
-//! A list of frames.
+//! A list of frames, each a string of bytes.
 
 ghost use Rattle.std.specs.Prelude.{◌≡◌, ◌<◌, ◌↔◌, [], ◌∷◌, ◌++◌, length, IsSome, IfSome, OnOk, OnErr, slice_get};
 ghost use Rattle.std.specs.Option.{option_copied};
@@ -38,7 +38,15 @@ impl Frames {
     {
         let alloc = *self.frames.allocator();
         let copy = frame.to_vec(alloc)?;
-        self.frames.push(copy)?;
+        self.add(copy)
+    }
+
+    /// Adds `frame` at the end, without a copy. After `NoMemory` the list is as it was, and the frame is lost.
+    pub fn add(&mut self, frame: Vec<u8>) -> Result<(), NoMemory>
+        ensures ok { OnOk result (self.new ≡ self.old ++ frame.items ∷ []) }
+        ensures err { OnErr result (self.new ≡ self.old) }
+    {
+        self.frames.push(frame)?;
         Ok(())
     }
 

@@ -1,33 +1,40 @@
 //! A connection in memory, over a script of what is to come.
 
 ghost use Rattle.std.specs.Prelude.{◌≡◌, ◌<◌, ◌≤◌, ◌↔◌, [], ◌∷◌, ◌++◌, true, false, IsTrue, IsErr, OnOk, OnErr, IfOk, length};
-ghost use Rattle.colo_base.specs.Count.{Rose, risen};
-ghost use Rattle.colo_base.specs.Plan.{one_more, is_next_failing};
-ghost use Rattle.colo_base.specs.Link.{LinkGoesOn, Hears};
-ghost use Rattle.colo_base.specs.InMemory.{link_state, heard_of, left_of};
+ghost use Rattle.colo_base.specs.Count.{incremented};
+ghost use Rattle.colo_base.specs.FailurePlan.{empty_plan, count_call, is_next_failing};
+ghost use Rattle.colo_base.specs.InMemory.{heard_of, link_state, receive};
+ghost use Rattle.colo_base.specs.Link.{Hears, LinkGoesOn};
 
-use crate::plan::Plan;
-use crate::script::Script;
+use crate::failure_plan::FailurePlan;
+use crate::incoming::Incoming;
 use crate::{Failed, Heard, Link, NoMemory};
 use std::alloc::Global;
 use std::marker::Model;
 
-/// An answer of a receive, as it is kept.
+/// What came at a receive.
 #[derive(Drop)]
-enum Reply {
+enum Given {
     Bytes(Vec<u8>),
     Quiet,
     Ended,
 }
 
-/// A connection over a script of pieces and quiet answers, which keeps its answers and what it sends.
+/// An answer of a receive, as it is kept, with the room that was offered.
+#[derive(Drop)]
+struct Reply {
+    room: usize,
+    given: Given,
+}
+
+/// A connection over a list of pieces and quiet answers that are to come. It keeps its answers and what it sends.
 #[derive(Drop)]
 pub struct MemoryLink {
-    coming: Script,
+    coming: Incoming,
     answers: Vec<Reply>,
     sent: Vec<u8>,
     opened: bool,
-    plan: Plan,
+    plan: FailurePlan,
     open_faults: u64,
     receive_faults: u64,
     send_faults: u64,
@@ -60,14 +67,18 @@ impl MemoryLink {
         ensures answers { result.answers ≡ [] }
         ensures sent { result.sent ≡ [] }
         ensures opened { result.opened ≡ false }
-        ensures plan { result.plan ≡ record { failing = []; made = 0 } }
+        ensures plan { result.plan ≡ empty_plan }
+        ensures open_faults { result.open_faults ≡ 0 }
+        ensures receive_faults { result.receive_faults ≡ 0 }
+        ensures send_faults { result.send_faults ≡ 0 }
+        ensures quiets { result.quiets ≡ 0 }
     {
         MemoryLink {
-            coming: Script::new(alloc),
+            coming: Incoming::new(alloc),
             answers: Vec::new(alloc),
             sent: Vec::new(alloc),
             opened: false,
-            plan: Plan::new(alloc),
+            plan: FailurePlan::new(alloc),
             open_faults: 0,
             receive_faults: 0,
             send_faults: 0,
@@ -75,7 +86,7 @@ impl MemoryLink {
         }
     }
 
-    /// Adds a piece of at least one byte to the script. One receive takes as many bytes of the oldest piece as there is
+    /// Adds a piece of at least one byte that is to come. One receive takes as many bytes of the oldest piece as there is
     /// room for, and of no other. After `NoMemory` the link is as it was.
     pub fn piece(&mut self, bytes: &[u8]) -> Result<(), NoMemory>
         requires { 0 < length bytes.now }
@@ -85,7 +96,7 @@ impl MemoryLink {
         self.coming.add(bytes)
     }
 
-    /// Adds one quiet answer to the script. After `NoMemory` the link is as it was.
+    /// Adds one quiet answer that is to come. After `NoMemory` the link is as it was.
     pub fn quiet(&mut self) -> Result<(), NoMemory>
         ensures ok { OnOk result (self.new ≡ record self.old { coming = self.old.coming ++ [] ∷ [] }) }
         ensures err { OnErr result (self.new ≡ self.old) }
@@ -110,32 +121,40 @@ impl MemoryLink {
         self.plan.fail(call)
     }
 
-    /// Takes the next of the script, and keeps the answer first. After `NoMemory` the link is as it was.
+    /// Takes the next that is to come, and keeps the answer first. After `NoMemory` the link is as it was.
     fn hear(&mut self, into: &mut [u8]) -> Result<Heard, NoMemory>
         requires { 0 < length into.old }
         ensures heard { IfOk result (λ heard. heard ≡ heard_of self.old.coming (length into.old)) }
         ensures hears { IfOk result (λ heard. Hears (link_state self.old) (link_state self.new) into.new heard) }
-        ensures coming { OnOk result (self.new.coming ≡ left_of self.old.coming (length into.old)) }
-        ensures rest { OnOk result (self.new
-            ≡ record self.old { coming = self.new.coming; answers = self.new.answers; quiets = self.new.quiets }) }
+        ensures ok { OnOk result (self.new ≡ receive self.old (length into.old)) }
         ensures quiets { self.old.quiets ≤ self.new.quiets }
         ensures err { OnErr result (self.new ≡ self.old) }
     {
+        let room = into.len();
         let Some(left) = self.coming.oldest() else {
-            self.answers.push(Reply::Ended)?;
+            self.answers.push(Reply {
+                room,
+                given: Given::Ended,
+            })?;
             return Ok(Heard::Ended);
         };
         if left.is_empty() {
-            self.answers.push(Reply::Quiet)?;
+            self.answers.push(Reply {
+                room,
+                given: Given::Quiet,
+            })?;
             self.quiets = self.quiets.saturating_add(1);
             self.coming.pass(0);
             return Ok(Heard::Quiet);
         }
-        let count = left.len().min(into.len());
+        let count = left.len().min(room);
         let taken = &left[..count];
         into[..count].copy_from_slice(taken);
         let copy = taken.to_vec(*self.sent.allocator())?;
-        self.answers.push(Reply::Bytes(copy))?;
+        self.answers.push(Reply {
+            room,
+            given: Given::Bytes(copy),
+        })?;
         self.coming.pass(count);
         Ok(Heard::Took(count))
     }
@@ -149,12 +168,12 @@ impl Link for MemoryLink {
     /// Opens the link, at whatever address. `Failed` exactly where the call was to fail.
     fn open(&mut self, _address: &str) -> Result<(), Failed>
         ensures planned { IsErr result ↔ IsTrue (is_next_failing self.old.plan) }
-        ensures ok { OnOk result (self.new ≡ record self.old { opened = true; plan = one_more self.old.plan }) }
+        ensures ok { OnOk result (self.new ≡ record self.old { opened = true; plan = count_call self.old.plan }) }
         ensures err { OnErr result (self.new
-            ≡ record self.old { plan = one_more self.old.plan; open_faults = risen self.old.open_faults }) }
-        ensures counts { LinkGoesOn (link_state self.old) (link_state self.new) }
+            ≡ record self.old { plan = count_call self.old.plan; open_faults = incremented self.old.open_faults }) }
+        ensures goes_on { LinkGoesOn (link_state self.old) (link_state self.new) }
     {
-        if self.plan.begin() {
+        if self.plan.count_call() {
             self.open_faults = self.open_faults.saturating_add(1);
             return Err(Failed);
         }
@@ -162,22 +181,21 @@ impl Link for MemoryLink {
         Ok(())
     }
 
-    /// Takes the next of the script: `Ended` exactly at its end. A call that was to fail is `Failed`, as is one for which
-    /// there is no memory; they take nothing.
+    /// Takes the next that is to come: `Ended` exactly where nothing is. A call that was to fail is `Failed`, as is one
+    /// for which there is no memory; they take nothing.
     fn receive(&mut self, into: &mut [u8]) -> Result<Heard, Failed>
         requires opened { IsTrue self.old.opened }
         requires room { 0 < length into.old }
         ensures planned { IsTrue (is_next_failing self.old.plan) → IsErr result }
         ensures heard { IfOk result (λ heard. heard ≡ heard_of self.old.coming (length into.old)) }
-        ensures ok { IfOk result (λ heard. Hears (link_state self.old) (link_state self.new) into.new heard) }
-        ensures coming { OnOk result (self.new.coming ≡ left_of self.old.coming (length into.old)) }
-        ensures rest { OnOk result (self.new
-            ≡ record self.old { coming = self.new.coming; answers = self.new.answers; plan = one_more self.old.plan; quiets = self.new.quiets }) }
+        ensures hears { IfOk result (λ heard. Hears (link_state self.old) (link_state self.new) into.new heard) }
+        ensures ok { OnOk result (self.new
+            ≡ record (receive self.old (length into.old)) { plan = count_call self.old.plan }) }
         ensures err { OnErr result (self.new
-            ≡ record self.old { plan = one_more self.old.plan; receive_faults = risen self.old.receive_faults }) }
-        ensures counts { LinkGoesOn (link_state self.old) (link_state self.new) }
+            ≡ record self.old { plan = count_call self.old.plan; receive_faults = incremented self.old.receive_faults }) }
+        ensures goes_on { LinkGoesOn (link_state self.old) (link_state self.new) }
     {
-        if !self.plan.begin() {
+        if !self.plan.count_call() {
             if let Ok(heard) = self.hear(into) {
                 return Ok(heard);
             }
@@ -191,12 +209,12 @@ impl Link for MemoryLink {
         requires { IsTrue self.old.opened }
         ensures planned { IsTrue (is_next_failing self.old.plan) → IsErr result }
         ensures ok { OnOk result (self.new
-            ≡ record self.old { sent = self.old.sent ++ bytes.now; plan = one_more self.old.plan }) }
+            ≡ record self.old { sent = self.old.sent ++ bytes.now; plan = count_call self.old.plan }) }
         ensures err { OnErr result (self.new
-            ≡ record self.old { plan = one_more self.old.plan; send_faults = risen self.old.send_faults }) }
-        ensures counts { LinkGoesOn (link_state self.old) (link_state self.new) }
+            ≡ record self.old { plan = count_call self.old.plan; send_faults = incremented self.old.send_faults }) }
+        ensures goes_on { LinkGoesOn (link_state self.old) (link_state self.new) }
     {
-        if !self.plan.begin() && self.sent.extend_from_slice(bytes).is_ok() {
+        if !self.plan.count_call() && self.sent.extend_from_slice(bytes).is_ok() {
             return Ok(());
         }
         self.send_faults = self.send_faults.saturating_add(1);

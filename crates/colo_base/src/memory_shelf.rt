@@ -1,14 +1,12 @@
 //! Files in memory.
 
-ghost use Rattle.std.specs.Prelude.{◌≡◌, ◌↔◌, ◌⊎◌, List, [], ◌∷◌, ◌++◌, ℕ, None, IsTrue, IsErrOf, OnOk, OnErr};
+ghost use Rattle.std.specs.Prelude.{◌≡◌, ◌↔◌, ◌⊎◌, List, [], ◌∷◌, ◌++◌, ℕ, None, Some, unwrap_or, IsSomeAnd, IsTrue, IsErrOf, OnOk, OnErr};
 ghost use Rattle.std.specs.Option.{option_copied};
-ghost use Rattle.std.specs.Io.{StartsWith};
-ghost use Rattle.colo_base.specs.Count.{Rose};
-ghost use Rattle.colo_base.specs.Plan.{one_more, is_next_failing};
-ghost use Rattle.colo_base.specs.Shelf.{ChangesOnly, Fetches, Empties, Adds};
-ghost use Rattle.colo_base.specs.InMemory.{contents_of, plan_of, shelf_state, Holds, IsSame};
+ghost use Rattle.colo_base.specs.FailurePlan.{empty_plan, count_call, is_next_failing};
+ghost use Rattle.colo_base.specs.Shelf.{ChangesOnly};
+ghost use Rattle.colo_base.specs.InMemory.{contents_of, counts_of, count_failed_fetch, count_failed_write, fetch_counts, write_counts, plan_of, shelf_state, SetsContents, IsSame};
 
-use crate::plan::Plan;
+use crate::failure_plan::FailurePlan;
 use crate::{NoMemory, Shelf, ShelfFault};
 use std::alloc::Global;
 use std::collections::BTreeMap;
@@ -17,7 +15,7 @@ use std::collections::BTreeMap;
 #[derive(Drop)]
 pub struct MemoryShelf {
     files: BTreeMap<String, Vec<u8>>,
-    plan: Plan,
+    plan: FailurePlan,
     fetch_faults: u64,
     write_faults: u64,
 }
@@ -26,11 +24,12 @@ impl MemoryShelf {
     /// A shelf without files, of which no call is to fail.
     pub fn new(alloc: Global) -> MemoryShelf
         ensures files { (name : List ℕ) → contents_of result name ≡ None }
-        ensures plan { plan_of result ≡ record { failing = []; made = 0 } }
+        ensures plan { plan_of result ≡ empty_plan }
+        ensures counts { counts_of result ≡ record { fetch_faults = 0; write_faults = 0 } }
     {
         MemoryShelf {
             files: BTreeMap::new(alloc),
-            plan: Plan::new(alloc),
+            plan: FailurePlan::new(alloc),
             fetch_faults: 0,
             write_faults: 0,
         }
@@ -39,7 +38,7 @@ impl MemoryShelf {
     /// Makes `bytes` the contents of `name`. It counts as no call. After `NoMemory` the shelf is as it was.
     #[tactic(auto, using(std::proofs::lemmas::Map::Text::text_keys))]
     pub fn set(&mut self, name: &str, bytes: &[u8]) -> Result<(), NoMemory>
-        ensures ok { OnOk result (Holds self.old self.new name.now bytes.now) }
+        ensures ok { OnOk result (SetsContents self.old self.new name.now bytes.now) }
         ensures err { OnErr result (IsSame self.old self.new) }
     {
         let alloc = self.plan.allocator();
@@ -63,28 +62,29 @@ impl MemoryShelf {
         ensures files { (name : List ℕ) → contents_of self.new name ≡ contents_of self.old name }
         ensures ok { OnOk result (plan_of self.new
             ≡ record (plan_of self.old) { failing = (plan_of self.old).failing ++ call ∷ [] }) }
+        ensures counts { counts_of self.new ≡ counts_of self.old }
         ensures err { OnErr result (IsSame self.old self.new) }
     {
         self.plan.fail(call)
     }
 
     /// Counts a failed fetch.
-    fn failed_fetch(&mut self) -> ShelfFault
+    fn count_failed_fetch(&mut self) -> ShelfFault
         ensures fault { result ≡ ShelfFault.Failed }
-        ensures rose { Rose self.old.fetch_faults self.new.fetch_faults }
-        ensures change { ChangesOnly (λ _. ⊥) (shelf_state self.old) (shelf_state self.new) }
-        ensures plan { self.new.plan ≡ self.old.plan }
+        ensures only { ChangesOnly (λ _. ⊥) (shelf_state self.old) (shelf_state self.new) }
+        ensures plan { plan_of self.new ≡ plan_of self.old }
+        ensures counts { counts_of self.new ≡ count_failed_fetch (counts_of self.old) }
     {
         self.fetch_faults = self.fetch_faults.saturating_add(1);
         ShelfFault::Failed
     }
 
     /// Counts a failed create or append.
-    fn failed_write(&mut self) -> ShelfFault
+    fn count_failed_write(&mut self) -> ShelfFault
         ensures fault { result ≡ ShelfFault.Failed }
-        ensures rose { Rose self.old.write_faults self.new.write_faults }
-        ensures change { ChangesOnly (λ _. ⊥) (shelf_state self.old) (shelf_state self.new) }
-        ensures plan { self.new.plan ≡ self.old.plan }
+        ensures only { ChangesOnly (λ _. ⊥) (shelf_state self.old) (shelf_state self.new) }
+        ensures plan { plan_of self.new ≡ plan_of self.old }
+        ensures counts { counts_of self.new ≡ count_failed_write (counts_of self.old) }
     {
         self.write_faults = self.write_faults.saturating_add(1);
         ShelfFault::Failed
@@ -93,7 +93,6 @@ impl MemoryShelf {
 
 impl Shelf for MemoryShelf {
     ghost use Rattle.colo_base.specs.InMemory.{shelf_state};
-    ghost use Rattle.colo_base.specs.Shelf.{ChangesOnly, Fetches, Empties, EmptiesOrKeeps, Adds, AddsPart};
 
     ghost state = { shelf_state };
 
@@ -101,17 +100,18 @@ impl Shelf for MemoryShelf {
     fn fetch(&mut self, name: &str, into: &mut Vec<u8>) -> Result<(), ShelfFault>
         ensures failed { IsErrOf result ShelfFault.Failed
             ↔ (IsTrue (is_next_failing (plan_of self.old)) ⊎ (contents_of self.old name.now ≡ None)) }
-        ensures bytes { OnOk result (Fetches (shelf_state self.old) name.now into.old.items into.new.items) }
-        ensures front { StartsWith into.new.items into.old.items }
+        ensures bytes { OnOk result (IsSomeAnd (contents_of self.old name.now)
+            (λ bytes. into.new.items ≡ into.old.items ++ bytes)) }
+        ensures err { OnErr result (into.new.items ≡ into.old.items) }
         ensures only { ChangesOnly (λ _. ⊥) (shelf_state self.old) (shelf_state self.new) }
-        ensures cause { IsErrOf result ShelfFault.Failed → Rose self.old.fetch_faults self.new.fetch_faults }
-        ensures plan { plan_of self.new ≡ one_more (plan_of self.old) }
+        ensures plan { plan_of self.new ≡ count_call (plan_of self.old) }
+        ensures counts { counts_of self.new ≡ fetch_counts result (counts_of self.old) }
     {
-        if self.plan.begin() {
-            return Err(self.failed_fetch());
+        if self.plan.count_call() {
+            return Err(self.count_failed_fetch());
         }
         match self.files.get(name) {
-            None => Err(self.failed_fetch()),
+            None => Err(self.count_failed_fetch()),
             Some(bytes) => {
                 into.extend_from_slice(bytes.as_slice())?;
                 Ok(())
@@ -123,14 +123,14 @@ impl Shelf for MemoryShelf {
     #[tactic(auto, using(std::proofs::lemmas::Map::Text::text_keys))]
     fn create(&mut self, name: &str) -> Result<(), ShelfFault>
         ensures failed { IsErrOf result ShelfFault.Failed ↔ IsTrue (is_next_failing (plan_of self.old)) }
-        ensures ok { OnOk result (Empties (shelf_state self.old) (shelf_state self.new) name.now) }
+        ensures ok { OnOk result (contents_of self.new name.now ≡ Some []) }
         ensures err { OnErr result (contents_of self.new name.now ≡ contents_of self.old name.now) }
         ensures only { ChangesOnly (λ other. other ≡ name.now) (shelf_state self.old) (shelf_state self.new) }
-        ensures cause { IsErrOf result ShelfFault.Failed → Rose self.old.write_faults self.new.write_faults }
-        ensures plan { plan_of self.new ≡ one_more (plan_of self.old) }
+        ensures plan { plan_of self.new ≡ count_call (plan_of self.old) }
+        ensures counts { counts_of self.new ≡ write_counts result (counts_of self.old) }
     {
-        if self.plan.begin() {
-            return Err(self.failed_write());
+        if self.plan.count_call() {
+            return Err(self.count_failed_write());
         }
         let alloc = self.plan.allocator();
         let key = String::from_str(alloc, name)?;
@@ -142,17 +142,18 @@ impl Shelf for MemoryShelf {
     #[tactic(auto, using(std::proofs::lemmas::Map::Text::text_keys))]
     fn append(&mut self, name: &str, bytes: &[u8]) -> Result<(), ShelfFault>
         ensures failed { IsErrOf result ShelfFault.Failed ↔ IsTrue (is_next_failing (plan_of self.old)) }
-        ensures ok { OnOk result (Adds (shelf_state self.old) (shelf_state self.new) name.now bytes.now) }
+        ensures ok { OnOk result (contents_of self.new name.now
+            ≡ Some (unwrap_or (contents_of self.old name.now) [] ++ bytes.now)) }
         ensures err { OnErr result (contents_of self.new name.now ≡ contents_of self.old name.now) }
         ensures only { ChangesOnly (λ other. other ≡ name.now) (shelf_state self.old) (shelf_state self.new) }
-        ensures cause { IsErrOf result ShelfFault.Failed → Rose self.old.write_faults self.new.write_faults }
-        ensures plan { plan_of self.new ≡ one_more (plan_of self.old) }
+        ensures plan { plan_of self.new ≡ count_call (plan_of self.old) }
+        ensures counts { counts_of self.new ≡ write_counts result (counts_of self.old) }
     {
-        if self.plan.begin() {
-            return Err(self.failed_write());
+        if self.plan.count_call() {
+            return Err(self.count_failed_write());
         }
-        if let Some(held) = self.files.get_mut(name) {
-            held.extend_from_slice(bytes)?;
+        if let Some(file) = self.files.get_mut(name) {
+            file.extend_from_slice(bytes)?;
             return Ok(());
         }
         let alloc = self.plan.allocator();

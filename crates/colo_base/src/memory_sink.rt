@@ -1,11 +1,12 @@
 //! A sink in memory.
 
 ghost use Rattle.std.specs.Prelude.{◌≡◌, [], ◌∷◌, ◌++◌, IsTrue, IsErr, OnOk, OnErr};
-ghost use Rattle.colo_base.specs.Count.{Rose};
-ghost use Rattle.colo_base.specs.Plan.{one_more, is_next_failing};
+ghost use Rattle.colo_base.specs.Count.{incremented};
+ghost use Rattle.colo_base.specs.FailurePlan.{empty_plan, count_call, is_next_failing};
+ghost use Rattle.colo_base.specs.InMemory.{sink_state};
 ghost use Rattle.colo_base.specs.Sink.{SinkGoesOn};
 
-use crate::plan::Plan;
+use crate::failure_plan::FailurePlan;
 use crate::{Failed, NoMemory, Sink};
 use std::alloc::Global;
 use std::marker::Model;
@@ -14,7 +15,7 @@ use std::marker::Model;
 #[derive(Drop)]
 pub struct MemorySink {
     bytes: Vec<u8>,
-    plan: Plan,
+    plan: FailurePlan,
     faults: u64,
 }
 
@@ -29,11 +30,11 @@ impl Model for MemorySink {
 impl MemorySink {
     /// A sink without bytes, of which no call is to fail.
     pub fn new(alloc: Global) -> MemorySink
-        ensures { result ≡ record { bytes = []; plan = record { failing = []; made = 0 }; faults = 0 } }
+        ensures { result ≡ record { bytes = []; plan = empty_plan; faults = 0 } }
     {
         MemorySink {
             bytes: Vec::new(alloc),
-            plan: Plan::new(alloc),
+            plan: FailurePlan::new(alloc),
             faults: 0,
         }
     }
@@ -63,13 +64,13 @@ impl Sink for MemorySink {
     /// Keeps the bytes. A put that was to fail is `Failed`, as is one for which there is no memory; they keep nothing.
     fn put(&mut self, bytes: &[u8]) -> Result<(), Failed>
         ensures planned { IsTrue (is_next_failing self.old.plan) → IsErr result }
-        ensures ok { OnOk result (self.new.bytes ≡ self.old.bytes ++ bytes.now) }
-        ensures err { OnErr result (self.new.bytes ≡ self.old.bytes) }
-        ensures counts { SinkGoesOn (sink_state self.old) (sink_state self.new) }
-        ensures cause { IsErr result → Rose self.old.faults self.new.faults }
-        ensures plan { self.new.plan ≡ one_more self.old.plan }
+        ensures ok { OnOk result (self.new
+            ≡ record self.old { bytes = self.old.bytes ++ bytes.now; plan = count_call self.old.plan }) }
+        ensures err { OnErr result (self.new
+            ≡ record self.old { plan = count_call self.old.plan; faults = incremented self.old.faults }) }
+        ensures goes_on { SinkGoesOn (sink_state self.old) (sink_state self.new) }
     {
-        if !self.plan.begin() && self.bytes.extend_from_slice(bytes).is_ok() {
+        if !self.plan.count_call() && self.bytes.extend_from_slice(bytes).is_ok() {
             return Ok(());
         }
         self.faults = self.faults.saturating_add(1);

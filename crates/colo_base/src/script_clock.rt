@@ -1,7 +1,7 @@
 //! A clock over a list of numbers.
 
 ghost use Rattle.std.specs.Prelude.{◌≡◌};
-ghost use Rattle.colo_base.specs.Count.{risen};
+ghost use Rattle.colo_base.specs.Count.{incremented};
 ghost use Rattle.colo_base.specs.Clock.{Gives};
 ghost use Rattle.colo_base.specs.InMemory.{tick_at, clock_state};
 
@@ -37,7 +37,7 @@ impl ScriptClock {
     /// The next number.
     fn advance(&mut self) -> u64
         ensures value { result ≡ tick_at self.old.script self.old.count }
-        ensures next { self.new ≡ record self.old { count = risen self.old.count } }
+        ensures next { self.new ≡ record self.old { count = incremented self.old.count } }
     {
         let place = self.count.min(self.script.len().saturating_sub(1));
         self.count = self.count.saturating_add(1);
@@ -53,7 +53,7 @@ impl Clock for ScriptClock {
     /// The next number of the list; from its end on the last one, and 0 where the list is empty.
     fn ticks(&mut self) -> u64
         ensures value { result ≡ tick_at self.old.script self.old.count }
-        ensures next { self.new ≡ record self.old { count = risen self.old.count } }
+        ensures next { self.new ≡ record self.old { count = incremented self.old.count } }
         ensures gives { Gives (clock_state self.old) (clock_state self.new) result }
     {
         self.advance()

@@ -2,10 +2,10 @@
 use Rattle.std.proofs.Common.{◌≡◌, ℕ, List, [], Some, inr, refl, sym, subst}
 use Rattle.std.specs.Io.{StartsWith}
 use Rattle.std.proofs.lemmas.List.{append-nil}
-use Rattle.colo_base.specs.declared.outside.ShelfFault.{ShelfFault}
-use Rattle.colo_base.specs.declared.outside.ShelfFault.TheVariants.{Failed, NoMemory as shelf_memory}
+use Rattle.colo_base.specs.declared.traits.ShelfFault.{ShelfFault}
+use Rattle.colo_base.specs.declared.traits.ShelfFault.TheVariants.{Failed, NoMemory as shelf_memory}
 use Rattle.colo_base.specs.Shelf.{ShelfState}
-use Rattle.colo_base.proofs.States.{front_itself}
+use Rattle.colo_base.proofs.StateLemmas.{front_itself}
 use Rattle.colo_top.specs.declared.schedule.Turn.{Turn}
 use Rattle.colo_top.specs.declared.fault.Fault.{Fault}
 use Rattle.colo_top.specs.declared.fault.Fault.TheVariants.{Image, Read, Write, NoMemory, NotBuilt}

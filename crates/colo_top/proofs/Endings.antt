@@ -3,8 +3,8 @@ use Rattle.std.proofs.Common.{◌≡◌, ℕ, ◌≤◌, List, [], ◌∷◌, �
 use Rattle.std.proofs.lemmas.List.Sums.{fold-append}
 use Rattle.colo_base.specs.Shelf.{ShelfState, ChangesOnly}
 use Rattle.colo_base.specs.Sink.{SinkState, Puts, PutsPart}
-use Rattle.colo_base.specs.Count.{Rose}
-use Rattle.colo_base.proofs.States.{changes_wider}
+use Rattle.colo_base.specs.Count.{Increased}
+use Rattle.colo_base.proofs.StateLemmas.{changes_wider}
 use Rattle.elf_load.specs.Boot.{elf_case}
 use Rattle.colo_top.specs.declared.schedule.Turn.{Turn}
 use Rattle.colo_top.specs.declared.fault.Fault.{Fault}
@@ -64,7 +64,7 @@ module _ (words : List (List ℕ)) (old new : ShelfState) (before after : SinkSt
   Ending = Ended words old new before after status
 
   abbrev WasPut : List ℕ → Type 0
-  WasPut line = ((status ≡ 0) × Puts before after line) ⊎ ((status ≡ 7) × PutsPart before after line × Rose before.faults after.faults)
+  WasPut line = ((status ≡ 0) × Puts before after line) ⊎ ((status ≡ 7) × PutsPart before after line × Increased before.faults after.faults)
 
   -- ---- the status
 
@@ -286,7 +286,7 @@ module _ (words : List (List ℕ)) (old new : ShelfState) (before after : SinkSt
   completes (inl m) = λ command texts turns boot last p t ready ran none. absurd (m.misspelled command p)
   completes (inr (inl w)) = λ command texts turns boot last p t ready ran none. put none.puts w.put
     where
-      put : (Rose before.faults after.faults → ⊥) → WasPut w.line → (status ≡ 0) ⊎ (status ≡ 8)
+      put : (Increased before.faults after.faults → ⊥) → WasPut w.line → (status ≡ 0) ⊎ (status ≡ 8)
       put none (inl p) = inl p.0
       put none (inr p) = absurd (none p.2)
   completes (inr (inr f)) = λ command texts turns boot last p t ready ran none. by command texts turns boot last p t ready ran none f.fault f.run f.status

@@ -2,7 +2,7 @@
 use Rattle.std.proofs.Common.{◌≡◌, ℕ, List, [], ◌∷◌, ◌++◌, Some, ◌⊎◌, inl, inr, refl, ap, ◌∙◌, All, flat_map, IsTrue}
 use Rattle.std.proofs.lemmas.List.Elements.{All-nil, All-cons, All-head, All-tail}
 use Rattle.colo_base.specs.Shelf.{ShelfState, ChangesOnly}
-use Rattle.colo_base.proofs.States.{changes_then, changes_wider, rose_before}
+use Rattle.colo_base.proofs.StateLemmas.{changes_then, changes_wider, increased_before}
 use Rattle.colo_top.specs.declared.schedule.Turn.{Turn}
 use Rattle.colo_top.specs.declared.fault.Fault.{Fault}
 use Rattle.colo_top.specs.declared.fault.Fault.TheVariants.{Image, Read, Write, NoMemory, NotBuilt}
@@ -59,16 +59,16 @@ written_since : (old mid new : ShelfState) (out : List ℕ) (files : OutFiles) �
 written_since old mid new out files kept w = record { only = kept_only old mid new (IsOutput out) kept w.only; holds = w.holds }
 
 created_since : (old mid new : ShelfState) (out : List ℕ) → KeepsFiles old mid → Creating mid new out → Creating old new out
-created_since old mid new out kept w = record { only = kept_only old mid new (IsOutput out) kept w.only; each = λ told o. at told o (w.each (kept.told ∙ told) o) }
+created_since old mid new out kept w = record { only = kept_only old mid new (IsOutput out) kept w.only; each = λ told o. at told o (w.each (kept.observable ∙ told) o) }
   where
-    at : IsTrue old.told → (o : Output) → (new.contents (file_name out o) ≡ mid.contents (file_name out o)) ⊎ (new.contents (file_name out o) ≡ Some []) →
+    at : IsTrue old.observable → (o : Output) → (new.contents (file_name out o) ≡ mid.contents (file_name out o)) ⊎ (new.contents (file_name out o) ≡ Some []) →
         (new.contents (file_name out o) ≡ old.contents (file_name out o)) ⊎ (new.contents (file_name out o) ≡ Some [])
     at told o (inl same) = inl (same ∙ kept.others told (file_name out o) (λ none. none))
     at told o (inr empty) = inr empty
 
 failed_since : (old mid new : ShelfState) (out : List ℕ) → KeepsFiles old mid → WriteFailed mid new out → WriteFailed old new out
 failed_since old mid new out kept failed =
-    (failed.0, rose_before (old.write_faults (file_name out failed.0)) (mid.write_faults (file_name out failed.0)) (new.write_faults (file_name out failed.0)) (kept.write_faults (file_name out failed.0)) failed.1)
+    (failed.0, increased_before (old.write_faults (file_name out failed.0)) (mid.write_faults (file_name out failed.0)) (new.write_faults (file_name out failed.0)) (kept.write_faults (file_name out failed.0)) failed.1)
 
 -- ---- the endings
 

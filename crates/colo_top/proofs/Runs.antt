@@ -5,10 +5,10 @@ use Rattle.std.specs.Prelude.{map, flat_map}
 use Rattle.std.proofs.lemmas.List.{append-nil, append_assoc, map-append, take_more, take_all, drop_more, take-append-drop}
 use Rattle.std.proofs.lemmas.List.Concat.{flat_map-append}
 use Rattle.std.proofs.lemmas.List.Sums.{fold_push}
-use Rattle.colo_base.specs.declared.outside.ShelfFault.{ShelfFault}
-use Rattle.colo_base.specs.declared.outside.ShelfFault.TheVariants.{Failed, NoMemory as shelf_memory}
+use Rattle.colo_base.specs.declared.traits.ShelfFault.{ShelfFault}
+use Rattle.colo_base.specs.declared.traits.ShelfFault.TheVariants.{Failed, NoMemory as shelf_memory}
 use Rattle.colo_base.specs.Shelf.{ShelfState, ChangesOnly}
-use Rattle.colo_base.proofs.States.{changes_none, changes_then, changes_wider, front_itself, front_more}
+use Rattle.colo_base.proofs.StateLemmas.{changes_none, changes_then, changes_wider, front_itself, front_more}
 use Rattle.colo_top.specs.declared.output.Output.{Output}
 use Rattle.colo_top.specs.declared.output.Output.TheVariants.{Log, Ram, Disk}
 use Rattle.colo_top.specs.declared.schedule.Turn.{Turn}

@@ -38,8 +38,8 @@ texts_by_parts a b c d e f g h p q r s = rw (p, q, r, s) refl
 
 pub same_texts : (shelf : ShelfState) (command : Replay) (there read : Texts) → AreThere shelf command there → AreRead shelf command read → there ≡ read
 same_texts shelf command there read t r =
-    texts_by_parts there.image there.disk there.client there.schedule read.image read.disk read.client read.schedule (same_bytes _ _ _ t.image (r.image t.told)) (same_bytes _ _ _ t.disk (r.disk t.told))
-    (same_bytes _ _ _ t.client (r.client t.told)) (same_bytes _ _ _ t.schedule (r.schedule t.told))
+    texts_by_parts there.image there.disk there.client there.schedule read.image read.disk read.client read.schedule (same_bytes _ _ _ t.image (r.image t.observable)) (same_bytes _ _ _ t.disk (r.disk t.observable))
+    (same_bytes _ _ _ t.client (r.client t.observable)) (same_bytes _ _ _ t.schedule (r.schedule t.observable))
 
 -- ---- schedules
 

@@ -4,8 +4,8 @@ use Rattle.std.specs.Io.{StartsWith}
 use Rattle.std.proofs.lemmas.List.{append_cancel_left, append-nil}
 use Rattle.std.proofs.lemmas.Bool.{false≢true}
 use Rattle.std.proofs.lemmas.Bool.Decides.{nat_tests}
-use Rattle.colo_base.specs.Shelf.{ShelfState, ChangesOnly, held, Adds, AddsPart, Empties, EmptiesOrKeeps}
-use Rattle.colo_base.proofs.States.{changes_none, changes_then, changes_wider, rose_before}
+use Rattle.colo_base.specs.Shelf.{ShelfState, ChangesOnly, bytes_of, Adds, AddsPart, Empties, EmptiesOrKeeps}
+use Rattle.colo_base.proofs.StateLemmas.{changes_none, changes_then, changes_wider, increased_before}
 use Rattle.colo_top.specs.declared.output.Output.{Output}
 use Rattle.colo_top.specs.declared.output.Output.TheVariants.{Log, Released, Wire, Ram, Disk}
 use Rattle.colo_top.specs.Files.{ending, file_name, OutFiles, file, no_bytes, with_more, IsOutput, Writing, Creating, WriteFailed}
@@ -91,9 +91,9 @@ only_then : (start old new : ShelfState) (out : List ℕ) (output : Output) → 
 only_then start old new out output first second = changes_then (IsOutput out) start old new first (only_output old new out output second)
 
 pub appends : (old new : ShelfState) (out : List ℕ) (output : Output) (bytes : List ℕ) → Adds old new (file_name out output) bytes → ChangesOnly (λ other. other ≡ file_name out output) old new → Appends old new out output bytes
-appends old new out output bytes adds change = λ start files w. record { only = only_then start old new out output w.only change; holds = λ told. each start files w (sym change.told ∙ told) }
+appends old new out output bytes adds change = λ start files w. record { only = only_then start old new out output w.only change; holds = λ told. each start files w (sym change.observable ∙ told) }
   where
-    each : (start : ShelfState) (files : OutFiles) → Writing start old out files → IsTrue old.told → (o : Output) → new.contents (file_name out o) ≡ Some (file (with_more files output bytes) o)
+    each : (start : ShelfState) (files : OutFiles) → Writing start old out files → IsTrue old.observable → (o : Output) → new.contents (file_name out o) ≡ Some (file (with_more files output bytes) o)
     each start files w told o = at o (same_or_apart o output)
       where
         at : (o : Output) → (o ≡ output) ⊎ AreApart o output → new.contents (file_name out o) ≡ Some (file (with_more files output bytes) o)
@@ -119,30 +119,30 @@ nothing_more files Ram = ap (λ bytes. record files { ram = bytes }) (append-nil
 nothing_more files Disk = ap (λ bytes. record files { disk = bytes }) (append-nil files.disk)
 
 -- the written files stay what they were where the name that a call was about stays too
-stays : (start old new : ShelfState) (out : List ℕ) (output : Output) (files : OutFiles) → (IsTrue old.told → new.contents (file_name out output) ≡ old.contents (file_name out output)) →
+stays : (start old new : ShelfState) (out : List ℕ) (output : Output) (files : OutFiles) → (IsTrue old.observable → new.contents (file_name out output) ≡ old.contents (file_name out output)) →
     ChangesOnly (λ other. other ≡ file_name out output) old new → Writing start old out files → Writing start new out files
 stays start old new out output files kept change w =
-    record { only = only_then start old new out output w.only change; holds = λ told o. at (sym change.told ∙ told) o (same_or_apart o output) }
+    record { only = only_then start old new out output w.only change; holds = λ told o. at (sym change.observable ∙ told) o (same_or_apart o output) }
   where
-    at : IsTrue old.told → (o : Output) → (o ≡ output) ⊎ AreApart o output → new.contents (file_name out o) ≡ Some (file files o)
+    at : IsTrue old.observable → (o : Output) → (o ≡ output) ⊎ AreApart o output → new.contents (file_name out o) ≡ Some (file files o)
     at told o (inl e) =
         let P : Output → Type 0 = λ x. new.contents (file_name out x) ≡ Some (file files x) in
         subst P (sym e) (kept told ∙ w.holds told output)
     at told o (inr apart) = change.others told (file_name out o) (apart.1 out) ∙ w.holds told o
 
 pub appends_part : (old new : ShelfState) (out : List ℕ) (output : Output) (bytes : List ℕ) → AddsPart old new (file_name out output) bytes → ChangesOnly (λ other. other ≡ file_name out output) old new → AppendsPart old new out output bytes
-appends_part old new out output bytes adds change = λ start files w. go start files w old.told refl
+appends_part old new out output bytes adds change = λ start files w. go start files w old.observable refl
   where
-    none : (start : ShelfState) (files : OutFiles) → Writing start old out files → (IsTrue old.told → new.contents (file_name out output) ≡ old.contents (file_name out output)) →
+    none : (start : ShelfState) (files : OutFiles) → Writing start old out files → (IsTrue old.observable → new.contents (file_name out output) ≡ old.contents (file_name out output)) →
         (part : List ℕ) × StartsWith bytes part × Writing start new out (with_more files output part)
     none start files w kept = ([], refl, rw nothing_more (stays start old new out output files kept change w))
 
-    go : (start : ShelfState) (files : OutFiles) → Writing start old out files → (told : Bool) → old.told ≡ told →
+    go : (start : ShelfState) (files : OutFiles) → Writing start old out files → (told : Bool) → old.observable ≡ told →
         (part : List ℕ) × StartsWith bytes part × Writing start new out (with_more files output part)
     go start files w false e = none start files w (λ told. absurd (false≢true (sym e ∙ told)))
     go start files w true e = at (adds e)
       where
-        at : (new.contents (file_name out output) ≡ old.contents (file_name out output)) ⊎ ((part : List ℕ) × StartsWith bytes part × (new.contents (file_name out output) ≡ Some (held old (file_name out output) ++ part))) →
+        at : (new.contents (file_name out output) ≡ old.contents (file_name out output)) ⊎ ((part : List ℕ) × StartsWith bytes part × (new.contents (file_name out output) ≡ Some (bytes_of old (file_name out output) ++ part))) →
             (part : List ℕ) × StartsWith bytes part × Writing start new out (with_more files output part)
         at (inl kept) = none start files w (λ told. kept)
         at (inr (part, front, added)) = (part, front, appends old new out output part (λ told. added) change start files w)
@@ -153,7 +153,7 @@ pub cleared_none : (start : ShelfState) (out : List ℕ) → Cleared start start
 cleared_none start out = record { only = changes_none (IsOutput out) start; done = λ told o h. absurd (omega arith); later = λ told o h. refl }
 
 pub cleared_all : (start now : ShelfState) (out : List ℕ) → Cleared start now out 5 → Writing start now out no_bytes
-cleared_all start now out c = record { only = c.only; holds = λ told o. c.done (sym c.only.told ∙ told) o (small o) ∙ ap Some (sym (empty o)) }
+cleared_all start now out c = record { only = c.only; holds = λ told o. c.done (sym c.only.observable ∙ told) o (small o) ∙ ap Some (sym (empty o)) }
   where
     small : (o : Output) → place o < 5
     small Log = omega arith
@@ -176,17 +176,17 @@ clears old new out output emptied change = λ start c. record {
   later = λ told o h. later start c told o h (same_or_apart o output);
 }
   where
-    done : (start : ShelfState) → Cleared start old out (place output) → IsTrue start.told → (o : Output) → place o < place output + 1 → (o ≡ output) ⊎ AreApart o output → new.contents (file_name out o) ≡ Some []
+    done : (start : ShelfState) → Cleared start old out (place output) → IsTrue start.observable → (o : Output) → place o < place output + 1 → (o ≡ output) ⊎ AreApart o output → new.contents (file_name out o) ≡ Some []
     done start c told o h (inl e) =
         let P : Output → Type 0 = λ x. new.contents (file_name out x) ≡ Some [] in
-        subst P (sym e) (emptied (c.only.told ∙ told))
+        subst P (sym e) (emptied (c.only.observable ∙ told))
     done start c told o h (inr apart) =
         let ne = apart.0 in
-        change.others (c.only.told ∙ told) (file_name out o) (apart.1 out) ∙ c.done told o (omega (arith, ne))
+        change.others (c.only.observable ∙ told) (file_name out o) (apart.1 out) ∙ c.done told o (omega (arith, ne))
 
-    later : (start : ShelfState) → Cleared start old out (place output) → IsTrue start.told → (o : Output) → place output + 1 ≤ place o → (o ≡ output) ⊎ AreApart o output → new.contents (file_name out o) ≡ start.contents (file_name out o)
+    later : (start : ShelfState) → Cleared start old out (place output) → IsTrue start.observable → (o : Output) → place output + 1 ≤ place o → (o ≡ output) ⊎ AreApart o output → new.contents (file_name out o) ≡ start.contents (file_name out o)
     later start c told o h (inl e) = let same = ap place e in absurd (omega arith)
-    later start c told o h (inr apart) = change.others (c.only.told ∙ told) (file_name out o) (apart.1 out) ∙ c.later told o (omega arith)
+    later start c told o h (inr apart) = change.others (c.only.observable ∙ told) (file_name out o) (apart.1 out) ∙ c.later told o (omega arith)
 
 pub clears_not : (old new : ShelfState) (out : List ℕ) (output : Output) → EmptiesOrKeeps old new (file_name out output) → ChangesOnly (λ other. other ≡ file_name out output) old new → ClearsNot old new out output
 clears_not old new out output kept change = λ start c. record {
@@ -194,11 +194,11 @@ clears_not old new out output kept change = λ start c. record {
   each = λ told o. each start c told o (same_or_apart o output);
 }
   where
-    each : (start : ShelfState) → Cleared start old out (place output) → IsTrue start.told → (o : Output) → (o ≡ output) ⊎ AreApart o output →
+    each : (start : ShelfState) → Cleared start old out (place output) → IsTrue start.observable → (o : Output) → (o ≡ output) ⊎ AreApart o output →
         (new.contents (file_name out o) ≡ start.contents (file_name out o)) ⊎ (new.contents (file_name out o) ≡ Some [])
     each start c told o (inl e) =
         let P : Output → Type 0 = λ x. (new.contents (file_name out x) ≡ start.contents (file_name out x)) ⊎ (new.contents (file_name out x) ≡ Some []) in
-        subst P (sym e) (either (kept (c.only.told ∙ told)))
+        subst P (sym e) (either (kept (c.only.observable ∙ told)))
       where
         either : (new.contents (file_name out output) ≡ Some []) ⊎ (new.contents (file_name out output) ≡ old.contents (file_name out output)) →
             (new.contents (file_name out output) ≡ start.contents (file_name out output)) ⊎ (new.contents (file_name out output) ≡ Some [])
@@ -207,7 +207,7 @@ clears_not old new out output kept change = λ start c. record {
     each start c told o (inr apart) = by (cases (nat_lt (place o) (place output)) refl)
       where
         moved : new.contents (file_name out o) ≡ old.contents (file_name out o)
-        moved = change.others (c.only.told ∙ told) (file_name out o) (apart.1 out)
+        moved = change.others (c.only.observable ∙ told) (file_name out o) (apart.1 out)
 
         cases : (b : Bool) → nat_lt (place o) (place output) ≡ b → (place o < place output) ⊎ (place output ≤ place o)
         cases true e = inl (grind (arith, nat_tests))
@@ -225,7 +225,7 @@ creating_unchanged start now out n c = record { only = c.only; each = λ told o.
     cases true o e = inl (grind (arith, nat_tests))
     cases false o e = inr (grind (arith, nat_tests))
 
-    by : IsTrue start.told → (o : Output) → (place o < n) ⊎ (n ≤ place o) → (now.contents (file_name out o) ≡ start.contents (file_name out o)) ⊎ (now.contents (file_name out o) ≡ Some [])
+    by : IsTrue start.observable → (o : Output) → (place o < n) ⊎ (n ≤ place o) → (now.contents (file_name out o) ≡ start.contents (file_name out o)) ⊎ (now.contents (file_name out o) ≡ Some [])
     by told o (inl h) = inr (c.done told o h)
     by told o (inr h) = inl (c.later told o h)
 
@@ -272,7 +272,7 @@ clears_not_at start old new out output k e clear before =
 
 pub write_failed_from : (start old new : ShelfState) (out : List ℕ) → ChangesOnly (IsOutput out) start old → WriteFailed old new out → WriteFailed start new out
 write_failed_from start old new out only failed =
-    (failed.0, rose_before (start.write_faults (file_name out failed.0)) (old.write_faults (file_name out failed.0)) (new.write_faults (file_name out failed.0)) (only.write_faults (file_name out failed.0)) failed.1)
+    (failed.0, increased_before (start.write_faults (file_name out failed.0)) (old.write_faults (file_name out failed.0)) (new.write_faults (file_name out failed.0)) (only.write_faults (file_name out failed.0)) failed.1)
 
 pub all_cleared : (start now : ShelfState) (out : List ℕ) (n : ℕ) → n ≡ 5 → Cleared start now out n → Writing start now out no_bytes
 all_cleared start now out n e c = let P : ℕ → Type 0 = λ k. Cleared start now out k in cleared_all start now out (subst P e c)

@@ -1,7 +1,7 @@
 -- The files of a run: those that are read, and those that are written.
 use Rattle.std.specs.Prelude.{◌≡◌, ℕ, IsTrue, List, [], ◌++◌, codes, Some, ◌⊎◌}
 use Rattle.colo_base.specs.Shelf.{ShelfState, ChangesOnly}
-use Rattle.colo_base.specs.Count.{Rose}
+use Rattle.colo_base.specs.Count.{Increased}
 use Rattle.colo_top.specs.declared.output.Output.{Output}
 use Rattle.colo_top.specs.declared.output.Output.TheVariants.{Log, Released, Wire, Ram, Disk}
 
@@ -49,7 +49,7 @@ IsOutput out name = (output : Output) × (name ≡ file_name out output)
 
 -- each written file has these bytes, where the shelf tells
 abbrev pub Holds : ShelfState → List ℕ → OutFiles → Type 0
-Holds shelf out files = IsTrue shelf.told → (output : Output) → shelf.contents (file_name out output) ≡ Some (file files output)
+Holds shelf out files = IsTrue shelf.observable → (output : Output) → shelf.contents (file_name out output) ≡ Some (file files output)
 
 -- from the start on no other file changed, and the written files hold these bytes
 pub record Writing (start now : ShelfState) (out : List ℕ) (files : OutFiles) : Type 0 where
@@ -59,10 +59,10 @@ pub record Writing (start now : ShelfState) (out : List ℕ) (files : OutFiles) 
 -- each written file is as it was or without bytes, and no other file changed
 pub record Creating (start now : ShelfState) (out : List ℕ) : Type 0 where
   pub only : ChangesOnly (IsOutput out) start now
-  pub each : IsTrue start.told → (output : Output) →
+  pub each : IsTrue start.observable → (output : Output) →
       (now.contents (file_name out output) ≡ start.contents (file_name out output)) ⊎ (now.contents (file_name out output) ≡ Some [])
 
 -- a create or an append of a written file failed
 abbrev pub WriteFailed : ShelfState → ShelfState → List ℕ → Type 0
 WriteFailed old new out =
-    (output : Output) × Rose (old.write_faults (file_name out output)) (new.write_faults (file_name out output))
+    (output : Output) × Increased (old.write_faults (file_name out output)) (new.write_faults (file_name out output))

@@ -1,7 +1,7 @@
 -- The files that a replay reads, and what it asks of them.
 use Rattle.std.specs.Prelude.{◌≡◌, ◌≢◌, ℕ, ◌<◌, ◌≤◌, ◌%◌, IsTrue, List, [], Some, length, ◌⊎◌}
 use Rattle.colo_base.specs.Shelf.{ShelfState}
-use Rattle.colo_base.specs.Count.{Rose}
+use Rattle.colo_base.specs.Count.{Increased}
 use Rattle.colo_top.specs.declared.schedule.Turn.{Turn}
 use Rattle.colo_top.specs.Schedule.{IsSchedule}
 use Rattle.colo_top.specs.Words.{Replay}
@@ -15,7 +15,7 @@ pub record Texts : Type 0 where
 
 -- the name has these bytes, where the shelf tells
 abbrev pub HasFile : ShelfState → List ℕ → List ℕ → Type 0
-HasFile shelf name bytes = IsTrue shelf.told → shelf.contents name ≡ Some bytes
+HasFile shelf name bytes = IsTrue shelf.observable → shelf.contents name ≡ Some bytes
 
 -- the files that the command names have these bytes, where the shelf tells
 pub record AreRead (shelf : ShelfState) (command : Replay) (texts : Texts) : Type 0 where
@@ -27,10 +27,10 @@ pub record AreRead (shelf : ShelfState) (command : Replay) (texts : Texts) : Typ
 -- a fetch of one of the files failed
 abbrev pub ReadFailed : ShelfState → ShelfState → Replay → Type 0
 ReadFailed old new command =
-    Rose (old.fetch_faults command.image) (new.fetch_faults command.image)
-    ⊎ (Rose (old.fetch_faults command.disk) (new.fetch_faults command.disk)
-    ⊎ (Rose (old.fetch_faults command.client) (new.fetch_faults command.client)
-    ⊎ Rose (old.fetch_faults command.schedule) (new.fetch_faults command.schedule)))
+    Increased (old.fetch_faults command.image) (new.fetch_faults command.image)
+    ⊎ (Increased (old.fetch_faults command.disk) (new.fetch_faults command.disk)
+    ⊎ (Increased (old.fetch_faults command.client) (new.fetch_faults command.client)
+    ⊎ Increased (old.fetch_faults command.schedule) (new.fetch_faults command.schedule)))
 
 -- a disk is whole sectors of 512 bytes, at least one, in at most 16 MiB
 pub record IsDisk (bytes : List ℕ) : Type 0 where

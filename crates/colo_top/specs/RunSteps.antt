@@ -1,8 +1,8 @@
 -- How the run and the last writes of a replay go on from what was written before.
 use Rattle.std.specs.Prelude.{◌≡◌, ℕ, List, [], ◌∷◌, ◌++◌, Some, None, ◌⊎◌}
 use Rattle.std.specs.Io.{StartsWith}
-use Rattle.colo_base.specs.declared.outside.ShelfFault.{ShelfFault}
-use Rattle.colo_base.specs.declared.outside.ShelfFault.TheVariants.{Failed, NoMemory as shelf_memory}
+use Rattle.colo_base.specs.declared.traits.ShelfFault.{ShelfFault}
+use Rattle.colo_base.specs.declared.traits.ShelfFault.TheVariants.{Failed, NoMemory as shelf_memory}
 use Rattle.colo_base.specs.Shelf.{ShelfState}
 use Rattle.colo_top.specs.declared.schedule.Turn.{Turn}
 use Rattle.colo_top.specs.declared.fault.Fault.{Fault}

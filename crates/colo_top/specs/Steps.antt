@@ -27,8 +27,8 @@ place Disk = 4
 -- the first n files were created, and the others are as they were
 pub record Cleared (start now : ShelfState) (out : List ℕ) (n : ℕ) : Type 0 where
   pub only : ChangesOnly (IsOutput out) start now
-  pub done : IsTrue start.told → (output : Output) → place output < n → now.contents (file_name out output) ≡ Some []
-  pub later : IsTrue start.told → (output : Output) → n ≤ place output → now.contents (file_name out output) ≡ start.contents (file_name out output)
+  pub done : IsTrue start.observable → (output : Output) → place output < n → now.contents (file_name out output) ≡ Some []
+  pub later : IsTrue start.observable → (output : Output) → n ≤ place output → now.contents (file_name out output) ≡ start.contents (file_name out output)
 
 -- the next file was created
 abbrev pub Clears : ShelfState → ShelfState → List ℕ → Output → Type 0

@@ -2,7 +2,7 @@
 use Rattle.std.specs.Prelude.{◌≡◌, ℕ, List, codes, Some, None, IsTrue, ◌⊎◌}
 use Rattle.colo_base.specs.Shelf.{ShelfState}
 use Rattle.colo_base.specs.Sink.{SinkState, Puts, PutsPart}
-use Rattle.colo_base.specs.Count.{Rose}
+use Rattle.colo_base.specs.Count.{Increased}
 use Rattle.elf_load.specs.Boot.{elf_case}
 use Rattle.colo_top.specs.declared.schedule.Turn.{Turn}
 use Rattle.colo_top.specs.declared.fault.Fault.{Fault}
@@ -21,7 +21,7 @@ IsStatus s = (s ≡ 0) ⊎ ((s ≡ 1) ⊎ ((s ≡ 2) ⊎ ((s ≡ 6) ⊎ ((s ≡ 
 
 -- the line was put, or a prefix of it where its put failed
 abbrev pub Prints : SinkState → SinkState → List ℕ → Type 0
-Prints old new line = Puts old new line ⊎ (PutsPart old new line × Rose old.faults new.faults)
+Prints old new line = Puts old new line ⊎ (PutsPart old new line × Increased old.faults new.faults)
 
 -- the words spell no command
 abbrev pub IsMisspelled : List (List ℕ) → Type 0
@@ -57,7 +57,7 @@ pub record IsUnsaid (command : Replay) (old new : ShelfState) (before after : Si
   pub line : List ℕ
   pub run : Replays command old new line
   pub put : PutsPart before after line
-  pub failed : Rose before.faults after.faults
+  pub failed : Increased before.faults after.faults
 
 -- a file couldn't be written
 pub record IsUnfiled (command : Replay) (old new : ShelfState) (before after : SinkState) : Type 0 where
@@ -88,7 +88,7 @@ pub record IsUnbuilt (words : List (List ℕ)) (old new : ShelfState) (before af
 
 -- the files that the command names have these bytes
 pub record AreThere (shelf : ShelfState) (command : Replay) (texts : Texts) : Type 0 where
-  pub told : IsTrue shelf.told
+  pub observable : IsTrue shelf.observable
   pub image : shelf.contents command.image ≡ Some texts.image
   pub disk : shelf.contents command.disk ≡ Some texts.disk
   pub client : shelf.contents command.client ≡ Some texts.client
@@ -116,7 +116,7 @@ FindsStop words old status =
 pub record NoCountRose (command : Replay) (old new : ShelfState) (before after : SinkState) : Type 0 where
   pub reads : ReadFailed old new command → ⊥
   pub writes : WriteFailed old new command.out → ⊥
-  pub puts : Rose before.faults after.faults → ⊥
+  pub puts : Increased before.faults after.faults → ⊥
 
 -- where nothing of that holds and no count rose the run is whole, unless memory is wanting
 abbrev pub Completes : List (List ℕ) → ShelfState → ShelfState → SinkState → SinkState → ℕ → Type 0
@@ -143,7 +143,7 @@ pub record EndsWhole (words : List (List ℕ)) (old new : ShelfState) (before af
   pub spelled : Spells words command
   pub line : List ℕ
   pub run : Replays command old new line
-  pub put : ((status ≡ 0) × Puts before after line) ⊎ ((status ≡ 7) × PutsPart before after line × Rose before.faults after.faults)
+  pub put : ((status ≡ 0) × Puts before after line) ⊎ ((status ≡ 7) × PutsPart before after line × Increased before.faults after.faults)
 
 -- a fault ended it
 pub record EndsFaulty (words : List (List ℕ)) (old new : ShelfState) (before after : SinkState) (ends : ℕ) : Type 0 where

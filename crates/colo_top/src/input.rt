@@ -1,7 +1,7 @@
 //! The files that a replay reads.
 
 ghost use Rattle.std.specs.Prelude.{◌≡◌, ◌↔◌, IfOk, IsErrOf, IsTrue};
-ghost use Rattle.colo_base.specs.Count.{Rose};
+ghost use Rattle.colo_base.specs.Count.{Increased};
 ghost use Rattle.colo_top.specs.Command.{replay_of};
 ghost use Rattle.colo_top.specs.Ends.{KeepsFiles};
 ghost use Rattle.colo_top.specs.Inputs.{AreRead, HasFile, IsDisk, ReadFailed};
@@ -29,7 +29,7 @@ fn read_file<S: Shelf>(alloc: Global, shelf: &mut S, name: &str) -> Result<Vec<u
     ensures bytes { IfOk result (λ file. HasFile (S.state shelf.old) name.now file.items) }
     ensures files { KeepsFiles (S.state shelf.old) (S.state shelf.new) }
     ensures cause { IsErrOf result ShelfFault.Failed
-        → Rose ((S.state shelf.old).fetch_faults name.now) ((S.state shelf.new).fetch_faults name.now) }
+        → Increased ((S.state shelf.old).fetch_faults name.now) ((S.state shelf.new).fetch_faults name.now) }
 {
     let mut file = Vec::new(alloc);
     shelf.fetch(name, &mut file)?;

@@ -1,7 +1,7 @@
 //! The top call.
 
 ghost use Rattle.std.specs.Prelude.{◌≡◌, ◌↔◌, ◌⊎◌, codes};
-ghost use Rattle.colo_base.specs.Count.{Rose};
+ghost use Rattle.colo_base.specs.Count.{Increased};
 ghost use Rattle.colo_base.specs.Shelf.{ChangesOnly};
 ghost use Rattle.colo_base.specs.Sink.{SinkGoesOn, Puts, PutsPart};
 ghost use Rattle.colo_top.specs.Ends.{KeepsFiles};
@@ -80,7 +80,7 @@ fn end_of<S: Shelf, O: Sink>(alloc: Global, words: &[String], shelf: &mut S, out
 /// Puts the line of a whole run.
 fn finish<O: Sink>(out: &mut O, line: &[u8]) -> u8
     ensures done { result ≡ 0 → Puts (O.state out.old) (O.state out.new) line.now }
-    ensures failed { result ≡ 7 → PutsPart (O.state out.old) (O.state out.new) line.now × Rose (O.state out.old).faults (O.state out.new).faults }
+    ensures failed { result ≡ 7 → PutsPart (O.state out.old) (O.state out.new) line.now × Increased (O.state out.old).faults (O.state out.new).faults }
     ensures either { (result ≡ 0) ⊎ (result ≡ 7) }
     ensures puts { SinkGoesOn (O.state out.old) (O.state out.new) }
 {

@@ -1,7 +1,7 @@
 -- The call was about the one file.
 use Rattle.std.proofs.Common.{◌∙◌}
 use Rattle.colo_top.proofs.Writes.{on_ok, on_err, appends_named, appends_part_named}
-use Rattle.colo_base.proofs.States.{changes_none}
+use Rattle.colo_base.proofs.StateLemmas.{changes_none}
 use Rattle.colo_top.specs.Files.{IsOutput}
 use Rattle.colo_top.proofs.Runs.{only_named}
 use Rattle.colo_top.proofs.output.append_to.Goals as goal

@@ -1,4 +1,4 @@
-use Rattle.colo_base.proofs.Clocks.{clock_gives}
+use Rattle.colo_base.proofs.ClockLemmas.{clock_gives}
 use Rattle.colo_base.proofs.script_clock.ScriptClockClock.ticks.Goals as goal
 
 pub returns-clause-gives : goal.returns-clause-gives

@@ -2,7 +2,7 @@
 
 ghost use Rattle.std.specs.Prelude.{◌≡◌, ◌≤◌, [], ◌∷◌, ◌++◌, OnOk, OnErr, IfSome, length, slice_get, unwrap_or};
 ghost use Rattle.std.specs.Option.{option_copied};
-ghost use Rattle.colo_base.specs.Script.{passed};
+ghost use Rattle.colo_base.specs.Incoming.{pass};
 
 use crate::NoMemory;
 use std::alloc::Global;
@@ -11,14 +11,14 @@ use std::marker::Model;
 
 /// Pieces of bytes that are to come, the oldest first. A contract sees what is left of each.
 #[derive(Drop)]
-pub struct Script {
+pub struct Incoming {
     pieces: VecDeque<Vec<u8>>,
     taken: usize,
 }
 
-impl Model for Script {
+impl Model for Incoming {
     ghost use Rattle.std.specs.Prelude.{List, ℕ, map, ◌≤◌, length};
-    ghost use Rattle.colo_base.specs.Script.{coming_of, IsWithin};
+    ghost use Rattle.colo_base.specs.Incoming.{coming_of, IsWithin};
 
     ghost Value = { List (List ℕ) };
 
@@ -27,12 +27,12 @@ impl Model for Script {
     ghost invariant = { λ s. IsWithin s.taken (map (λ piece. piece.items) s.pieces.items) };
 }
 
-impl Script {
+impl Incoming {
     /// Nothing is to come.
-    pub fn new(alloc: Global) -> Script
+    pub fn new(alloc: Global) -> Incoming
         ensures { result ≡ [] }
     {
-        Script {
+        Incoming {
             pieces: VecDeque::new(alloc),
             taken: 0,
         }
@@ -60,7 +60,7 @@ impl Script {
     /// Takes `n` bytes of the oldest piece, which goes once nothing of it is left.
     pub fn pass(&mut self, n: usize)
         requires { n ≤ length (unwrap_or (slice_get self.old 0) []) }
-        ensures { self.new ≡ passed n self.old }
+        ensures { self.new ≡ pass n self.old }
     {
         let left = self.pieces.front().map_or(0, |piece| piece.len());
         if self.taken + n < left {

@@ -1,13 +1,16 @@
-//! The outside: files, a connection, a text that is written and a clock, each as a trait whose clauses say what its calls mean.
+//! The outside: files, a connection, a text that is written and a clock, each as a trait whose clauses say what its
+//! calls mean.
 //!
-//! What an object means at one moment is its ghost member `state`. Whether it tells its contents never changes, and
-//! what it tells is pinned only where it does: a real file may be changed by others, a file in memory is not.
-//! A call that fails raises a count of that kind of call. No count falls, and each ends at 2^64 - 1, where every
-//! failing call counts as having raised it.
+//! What an object means at one moment is its ghost member `state`. Whether its contents can be observed never changes,
+//! and they are pinned only where they can: a real file may be changed by others, a file in memory is not.
+//!
+//! A call that fails increments a count of that kind of call. A call that answers `Ok` changes no count, and no call
+//! changes a count of another kind. No count falls, and each ends at 2^64 - 1, where every failing call counts as
+//! having incremented it.
 
 ghost use Rattle.std.specs.Prelude.{◌≡◌, ◌<◌, IsTrue, IsErr, IsErrOf, OnOk, OnErr, IfOk, length};
 ghost use Rattle.std.specs.Io.{StartsWith};
-ghost use Rattle.colo_base.specs.Count.{Rose};
+ghost use Rattle.colo_base.specs.Count.{Increased};
 
 use crate::Failed;
 use std::alloc::{AllocError, AllocFailed};
@@ -15,7 +18,7 @@ use std::alloc::{AllocError, AllocFailed};
 /// Why a call on a shelf did not do what it was asked.
 #[derive(Clone, Copy, Debug, PartialEq, Eq)]
 pub enum ShelfFault {
-    /// The file is missing, or reading or writing it failed. The count of such calls for its name rose.
+    /// The file is missing, or reading or writing it failed. The count of such calls for its name increased.
     Failed,
     /// An allocation was refused.
     NoMemory,
@@ -23,7 +26,7 @@ pub enum ShelfFault {
 
 impl From<AllocError> for ShelfFault {
     ghost use Rattle.std.specs.Prelude.{◌≡◌};
-    ghost use Rattle.colo_base.specs.declared.outside.ShelfFault.TheVariants as variant;
+    ghost use Rattle.colo_base.specs.declared.traits.ShelfFault.TheVariants as variant;
 
     ghost from_gives = { λ _ fault. fault ≡ variant.NoMemory };
 
@@ -34,7 +37,7 @@ impl From<AllocError> for ShelfFault {
 
 impl<T: Drop> From<AllocFailed<T>> for ShelfFault {
     ghost use Rattle.std.specs.Prelude.{◌≡◌};
-    ghost use Rattle.colo_base.specs.declared.outside.ShelfFault.TheVariants as variant;
+    ghost use Rattle.colo_base.specs.declared.traits.ShelfFault.TheVariants as variant;
 
     ghost from_gives = { λ _ fault. fault ≡ variant.NoMemory };
 
@@ -48,7 +51,7 @@ impl<T: Drop> From<AllocFailed<T>> for ShelfFault {
 pub enum Heard {
     /// So many bytes were taken, at least one. They are the first of the buffer.
     Took(usize),
-    /// No byte has come. The count of such answers rose.
+    /// No byte has come. The count of such answers increased.
     Quiet,
     /// No further byte will come.
     Ended,
@@ -56,10 +59,10 @@ pub enum Heard {
 
 /// Files by name, each a string of bytes.
 ///
-/// A shelf means the contents of each name, where it tells them, and for each name how many fetches and how many
+/// A shelf means the contents of each name, where they can be observed, and for each name how many fetches and how many
 /// creates and appends failed. A call leaves every other name's contents alone.
 pub trait Shelf {
-    ghost use Rattle.colo_base.specs.Shelf.{ShelfState, ChangesOnly, Fetches, Empties, EmptiesOrKeeps, Adds, AddsPart};
+    ghost use Rattle.colo_base.specs.Shelf.{ShelfState, ChangesOnly, NoFetchFailed, NoWriteFailed, Fetches, Empties, EmptiesOrKeeps, Adds, AddsPart};
 
     ghost state: { Self → ShelfState };
 
@@ -71,7 +74,9 @@ pub trait Shelf {
         ensures front { StartsWith into.new.items into.old.items }
         ensures only { ChangesOnly (λ _. ⊥) (state self.old) (state self.new) }
         ensures cause { IsErrOf result ShelfFault.Failed
-            → Rose ((state self.old).fetch_faults name.now) ((state self.new).fetch_faults name.now) };
+            → Increased ((state self.old).fetch_faults name.now) ((state self.new).fetch_faults name.now) }
+        ensures counts { OnOk result (NoFetchFailed (state self.old) (state self.new)) }
+        ensures writes { NoWriteFailed (state self.old) (state self.new) };
 
     /// Makes the file `name` empty, whether it was there or not.
     ///
@@ -81,9 +86,11 @@ pub trait Shelf {
         ensures err { OnErr result (EmptiesOrKeeps (state self.old) (state self.new) name.now) }
         ensures only { ChangesOnly (λ other. other ≡ name.now) (state self.old) (state self.new) }
         ensures cause { IsErrOf result ShelfFault.Failed
-            → Rose ((state self.old).write_faults name.now) ((state self.new).write_faults name.now) };
+            → Increased ((state self.old).write_faults name.now) ((state self.new).write_faults name.now) }
+        ensures counts { OnOk result (NoWriteFailed (state self.old) (state self.new)) }
+        ensures fetches { NoFetchFailed (state self.old) (state self.new) };
 
-    /// Adds `bytes` at the end of the file `name`, and begins a file that isn't there.
+    /// Adds `bytes` at the end of the file `name`, and creates a file that isn't there.
     ///
     /// After an `Err` a prefix of the bytes was added, or the file is as it was.
     fn append(&mut self, name: &str, bytes: &[u8]) -> Result<(), ShelfFault>
@@ -91,15 +98,17 @@ pub trait Shelf {
         ensures err { OnErr result (AddsPart (state self.old) (state self.new) name.now bytes.now) }
         ensures only { ChangesOnly (λ other. other ≡ name.now) (state self.old) (state self.new) }
         ensures cause { IsErrOf result ShelfFault.Failed
-            → Rose ((state self.old).write_faults name.now) ((state self.new).write_faults name.now) };
+            → Increased ((state self.old).write_faults name.now) ((state self.new).write_faults name.now) }
+        ensures counts { OnOk result (NoWriteFailed (state self.old) (state self.new)) }
+        ensures fetches { NoFetchFailed (state self.old) (state self.new) };
 }
 
 /// A connection that carries bytes both ways.
 ///
-/// A link means whether an `open` of it answered `Ok`, the answers of its receives and the bytes sent, where it tells
-/// them, and how many opens of each address, receives and sends failed and how many receives were quiet.
+/// A link means whether an `open` of it answered `Ok`, the answers of its receives and the bytes sent, where they can be
+/// observed, and how many opens of each address, receives and sends failed and how many receives were quiet.
 pub trait Link {
-    ghost use Rattle.colo_base.specs.Link.{LinkState, LinkGoesOn, SameAnswers, SameSent, Sends, SendsPart, Hears};
+    ghost use Rattle.colo_base.specs.Link.{LinkState, LinkGoesOn, NoOpenFailed, NoReceiveFailed, NoSendFailed, NoneQuiet, CountsOpen, CountsReceive, CountsSend, SameAnswers, SameSent, Sends, SendsPart, Hears};
 
     ghost state: { Self → LinkState };
 
@@ -111,9 +120,11 @@ pub trait Link {
         ensures err { OnErr result ((state self.new).opened ≡ (state self.old).opened) }
         ensures heard { SameAnswers (state self.old) (state self.new) }
         ensures sent { SameSent (state self.old) (state self.new) }
-        ensures counts { LinkGoesOn (state self.old) (state self.new) }
+        ensures goes_on { LinkGoesOn (state self.old) (state self.new) }
         ensures cause { IsErr result
-            → Rose ((state self.old).open_faults address.now) ((state self.new).open_faults address.now) };
+            → Increased ((state self.old).open_faults address.now) ((state self.new).open_faults address.now) }
+        ensures counts { OnOk result (NoOpenFailed (state self.old) (state self.new)) }
+        ensures others { CountsOpen (state self.old) (state self.new) };
 
     /// Takes bytes that have come into the front of `into`, which isn't empty.
     ///
@@ -126,8 +137,11 @@ pub trait Link {
         ensures err { OnErr result (SameAnswers (state self.old) (state self.new)) }
         ensures opened { (state self.new).opened ≡ (state self.old).opened }
         ensures sent { SameSent (state self.old) (state self.new) }
-        ensures counts { LinkGoesOn (state self.old) (state self.new) }
-        ensures cause { IsErr result → Rose (state self.old).receive_faults (state self.new).receive_faults };
+        ensures goes_on { LinkGoesOn (state self.old) (state self.new) }
+        ensures cause { IsErr result → Increased (state self.old).receive_faults (state self.new).receive_faults }
+        ensures counts { OnOk result (NoReceiveFailed (state self.old) (state self.new)) }
+        ensures quiets { OnErr result (NoneQuiet (state self.old) (state self.new)) }
+        ensures others { CountsReceive (state self.old) (state self.new) };
 
     /// Sends `bytes`.
     ///
@@ -138,13 +152,15 @@ pub trait Link {
         ensures err { OnErr result (SendsPart (state self.old) (state self.new) bytes.now) }
         ensures opened { (state self.new).opened ≡ (state self.old).opened }
         ensures heard { SameAnswers (state self.old) (state self.new) }
-        ensures counts { LinkGoesOn (state self.old) (state self.new) }
-        ensures cause { IsErr result → Rose (state self.old).send_faults (state self.new).send_faults };
+        ensures goes_on { LinkGoesOn (state self.old) (state self.new) }
+        ensures cause { IsErr result → Increased (state self.old).send_faults (state self.new).send_faults }
+        ensures counts { OnOk result (NoSendFailed (state self.old) (state self.new)) }
+        ensures others { CountsSend (state self.old) (state self.new) };
 }
 
 /// A text that is written, as standard output.
 ///
-/// A sink means the bytes put, where it tells them, and how many puts failed.
+/// A sink means the bytes put, where they can be observed, and how many puts failed.
 pub trait Sink {
     ghost use Rattle.colo_base.specs.Sink.{SinkState, SinkGoesOn, Puts, PutsPart};
 
@@ -156,14 +172,15 @@ pub trait Sink {
     fn put(&mut self, bytes: &[u8]) -> Result<(), Failed>
         ensures ok { OnOk result (Puts (state self.old) (state self.new) bytes.now) }
         ensures err { OnErr result (PutsPart (state self.old) (state self.new) bytes.now) }
-        ensures counts { SinkGoesOn (state self.old) (state self.new) }
-        ensures cause { IsErr result → Rose (state self.old).faults (state self.new).faults };
+        ensures goes_on { SinkGoesOn (state self.old) (state self.new) }
+        ensures cause { IsErr result → Increased (state self.old).faults (state self.new).faults }
+        ensures counts { OnOk result ((state self.new).faults ≡ (state self.old).faults) };
 }
 
 /// A clock that counts ticks.
 ///
-/// A clock means the numbers that it gave, where it tells them, as long as they are fewer than 2^64 - 1. It has no
-/// fault.
+/// A clock means the numbers that it gave, where they can be observed, as long as they are fewer than 2^64 - 1. It never
+/// fails.
 pub trait Clock {
     ghost use Rattle.colo_base.specs.Clock.{ClockState, Gives};
 

@@ -1,20 +1,21 @@
-//! The real outside: files and standard output. What is here is trusted to do what the system calls say, and its faults
-//! are shown by counts alone: one of each kind for all names, and no contents are told.
+//! The real outside: files and standard output. What is here is trusted to do what the system calls say. Its failures are
+//! shown by counts alone, one of each kind for all names, and no contents can be observed.
 
-ghost use Rattle.std.specs.Prelude.{◌≡◌, ◌≢◌, ◌≤◌, IsOk, OnOk, OnErr, IsErr, IfErr};
+ghost use Rattle.std.specs.Prelude.{◌≡◌, ◌↔◌};
 ghost use Rattle.std.specs.Io.{StartsWith};
-ghost use Rattle.colo_base.specs.Count.{Rose};
+ghost use Rattle.std.specs.IoError.{error_kind};
 
 use crate::{Failed, Shelf, ShelfFault, Sink};
 use std::fs::{File, OpenOptions};
 use std::io;
 use std::io::{ErrorKind, Read, Write};
+use std::marker::Model;
 use std::rt::Files;
 
 /// The greatest file that is fetched, in bytes.
 const FILE_LIMIT: usize = 1_073_741_824;
 
-/// The files of the system.
+/// The files of the system. A contract sees how many calls failed, one count of a kind for all names.
 #[derive(Drop)]
 pub struct FileShelf<'a, R: Files> {
     files: &'a R,
@@ -22,9 +23,19 @@ pub struct FileShelf<'a, R: Files> {
     write_faults: u64,
 }
 
+impl<'a, R: Files> Model for FileShelf<'a, R> {
+    ghost use Rattle.colo_base.specs.InMemory.{ShelfCounts};
+
+    ghost Value = { ShelfCounts };
+
+    ghost view = { λ s. record { fetch_faults = s.fetch_faults; write_faults = s.write_faults } };
+}
+
 impl<'a, R: Files> FileShelf<'a, R> {
     /// The files that `files` reaches, of which no call has failed.
-    pub fn new(files: &'a R) -> FileShelf<'a, R> {
+    pub fn new(files: &'a R) -> FileShelf<'a, R>
+        ensures { result ≡ record { fetch_faults = 0; write_faults = 0 } }
+    {
         FileShelf {
             files,
             fetch_faults: 0,
@@ -41,13 +52,13 @@ fn read_file<R: Files>(files: &R, name: &str, into: &mut Vec<u8>) -> io::Result<
     file.take(FILE_LIMIT as u64 + 1).read_to_end(into)
 }
 
-/// Empties a file, or begins it.
+/// Empties a file, or creates it.
 fn create_file<R: Files>(files: &R, name: &str) -> io::Result<()> {
     File::create(files, name)?;
     Ok(())
 }
 
-/// Adds bytes at the end of a file, or begins it.
+/// Adds bytes at the end of a file, or creates it.
 fn append_file<R: Files>(files: &R, name: &str, bytes: &[u8]) -> io::Result<()> {
     let mut options = OpenOptions::new();
     options.append(true).create(true);
@@ -55,12 +66,13 @@ fn append_file<R: Files>(files: &R, name: &str, bytes: &[u8]) -> io::Result<()> 
     file.write_all(bytes)
 }
 
-/// What a fault of the system is to a caller.
-fn fault_of(error: &io::Error) -> ShelfFault {
-    if error.kind() == ErrorKind::OutOfMemory {
-        ShelfFault::NoMemory
-    } else {
-        ShelfFault::Failed
+/// What an error of the system is to a caller.
+fn fault_of(error: &io::Error) -> ShelfFault
+    ensures { (result ≡ ShelfFault.NoMemory) ↔ (error_kind error.now ≡ ErrorKind.OutOfMemory) }
+{
+    match error.kind() {
+        ErrorKind::OutOfMemory => ShelfFault::NoMemory,
+        _ => ShelfFault::Failed,
     }
 }
 
@@ -68,7 +80,7 @@ impl<'a, R: Files> Shelf for FileShelf<'a, R> {
     ghost use Rattle.std.specs.Prelude.{false, None};
 
     ghost state = { λ shelf. record {
-      told = false;
+      observable = false;
       contents = λ name. None;
       fetch_faults = λ name. shelf.fetch_faults;
       write_faults = λ name. shelf.write_faults;
@@ -85,7 +97,7 @@ impl<'a, R: Files> Shelf for FileShelf<'a, R> {
         Err(fault)
     }
 
-    /// Empties the file, or begins it.
+    /// Empties the file, or creates it.
     fn create(&mut self, name: &str) -> Result<(), ShelfFault> {
         let Err(error) = create_file(self.files, name) else {
             return Ok(());
@@ -94,7 +106,7 @@ impl<'a, R: Files> Shelf for FileShelf<'a, R> {
         Err(fault_of(&error))
     }
 
-    /// Adds the bytes at the end of the file, or begins it. A write that takes nothing is a fault.
+    /// Adds the bytes at the end of the file, or creates it. A write that takes nothing is `Failed`.
     fn append(&mut self, name: &str, bytes: &[u8]) -> Result<(), ShelfFault> {
         let Err(error) = append_file(self.files, name, bytes) else {
             return Ok(());
@@ -104,16 +116,26 @@ impl<'a, R: Files> Shelf for FileShelf<'a, R> {
     }
 }
 
-/// Standard output.
+/// Standard output. A contract sees how many puts failed.
 #[derive(Drop)]
 pub struct OutSink<'a, P: Print> {
     output: &'a P,
     faults: u64,
 }
 
+impl<'a, P: Print> Model for OutSink<'a, P> {
+    ghost use Rattle.std.specs.Prelude.{ℕ};
+
+    ghost Value = { ℕ };
+
+    ghost view = { λ s. s.faults };
+}
+
 impl<'a, P: Print> OutSink<'a, P> {
     /// The standard output of `output`, on which no put has failed.
-    pub fn new(output: &'a P) -> OutSink<'a, P> {
+    pub fn new(output: &'a P) -> OutSink<'a, P>
+        ensures { result ≡ 0 }
+    {
         OutSink { output, faults: 0 }
     }
 }
@@ -121,9 +143,9 @@ impl<'a, P: Print> OutSink<'a, P> {
 impl<'a, P: Print> Sink for OutSink<'a, P> {
     ghost use Rattle.std.specs.Prelude.{false, []};
 
-    ghost state = { λ sink. record { told = false; bytes = []; faults = sink.faults } };
+    ghost state = { λ sink. record { observable = false; bytes = []; faults = sink } };
 
-    /// Writes the bytes. A write that takes nothing is a fault.
+    /// Writes the bytes. A write that takes nothing is `Failed`.
     fn put(&mut self, bytes: &[u8]) -> Result<(), Failed> {
         if self.output.write_all(bytes).is_ok() {
             return Ok(());

@@ -1,7 +1,7 @@
 //! Which calls of an object in memory are to fail.
 
 ghost use Rattle.std.specs.Prelude.{◌≡◌, [], ◌∷◌, ◌++◌, OnOk, OnErr};
-ghost use Rattle.colo_base.specs.Plan.{one_more, is_next_failing};
+ghost use Rattle.colo_base.specs.FailurePlan.{empty_plan, count_call, is_next_failing};
 
 use crate::NoMemory;
 use std::alloc::Global;
@@ -9,25 +9,25 @@ use std::marker::Model;
 
 /// A list of calls that are to fail, by number, and how many calls were made.
 #[derive(Drop)]
-pub struct Plan {
+pub struct FailurePlan {
     failing: Vec<u64>,
     made: u64,
 }
 
-impl Model for Plan {
-    ghost use Rattle.colo_base.specs.Plan.{PlanState};
+impl Model for FailurePlan {
+    ghost use Rattle.colo_base.specs.FailurePlan.{PlanState};
 
     ghost Value = { PlanState };
 
     ghost view = { λ p. record { failing = p.failing.items; made = p.made } };
 }
 
-impl Plan {
+impl FailurePlan {
     /// No call is to fail, and none was made.
-    pub fn new(alloc: Global) -> Plan
-        ensures { result ≡ record { failing = []; made = 0 } }
+    pub fn new(alloc: Global) -> FailurePlan
+        ensures { result ≡ empty_plan }
     {
-        Plan {
+        FailurePlan {
             failing: Vec::new(alloc),
             made: 0,
         }
@@ -42,10 +42,10 @@ impl Plan {
         Ok(())
     }
 
-    /// Counts a call, and says whether it is to fail.
-    pub fn begin(&mut self) -> bool
+    /// Counts a call, and answers whether it is to fail.
+    pub fn count_call(&mut self) -> bool
         ensures fails { result ≡ is_next_failing self.old }
-        ensures counts { self.new ≡ one_more self.old }
+        ensures counts { self.new ≡ count_call self.old }
     {
         self.made = self.made.saturating_add(1);
         self.failing.contains(&self.made)
