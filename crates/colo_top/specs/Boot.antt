@@ -2,7 +2,7 @@
 use Rattle.std.specs.Prelude.{◌≡◌, ℕ, ◌*◌, ◌^◌, ◌≤◌, false, List, Option, Some, None, replicate, is_none, if◌then◌else◌}
 use Rattle.elf_load.specs.Boot.{elf_case, boot_memory}
 use Rattle.elf_load.specs.Elf.{entry_of}
-use Rattle.rv_traps.specs.Trap.{started}
+use Rattle.rv_traps.specs.Trap.{boot_csrs}
 use Rattle.colo_top.specs.Machine.{State}
 use Rattle.colo_top.specs.declared.machine.BootFault.{BootFault}
 use Rattle.colo_top.specs.declared.machine.BootFault.TheVariants.{Elf, NoMemory}
@@ -15,7 +15,7 @@ ram_size = 16 * 2 ^ 20
 abbrev pub at_boot : List ℕ → State
 at_boot image = record {
   hart = record { pc = entry_of image; x = replicate 32 0; reserved = false; address = 0 };
-  csrs = started;
+  csrs = boot_csrs;
   memory = boot_memory ram_size image;
 }
 

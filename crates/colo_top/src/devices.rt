@@ -3,7 +3,7 @@
 ghost use Rattle.std.specs.Prelude.{◌≡◌, ◌≤◌, ◌<◌};
 ghost use Rattle.rv_isa.specs.Ranges.{IsWithin};
 ghost use Rattle.rv_core.specs.Registers.{x_of};
-ghost use Rattle.rv_core.specs.Effect.{plus};
+ghost use Rattle.rv_core.specs.Effect.{add_signed};
 ghost use Rattle.colo_top.specs.Devices.{reaches_device, is_device};
 
 use rv_core::Hart;
@@ -39,7 +39,7 @@ pub fn reaches_device(hart: &Hart, instr: &Instr) -> bool
 fn is_device(hart: &Hart, width: u32, register: u8, distance: i32) -> bool
     requires some { 0 < width }
     requires place { register < 32 }
-    ensures { result ≡ is_device width (plus (x_of hart.now register) distance) }
+    ensures { result ≡ is_device width (add_signed (x_of hart.now register) distance) }
 {
     let addr = hart.reg(u32::from(register)).wrapping_add_signed(distance);
     addr % width == 0 && FIRST <= addr && addr <= LAST

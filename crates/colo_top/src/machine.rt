@@ -1,8 +1,8 @@
 //! The machine: one hart with its CSRs and timer over its memory, its steps and its turns.
 
 ghost use Rattle.std.specs.Prelude.{◌≡◌, ◌<◌, ℕ, Some, None, OnOk, IfOk, IfErr, IsErrOf};
-ghost use Rattle.rv_isa.specs.Table.{IsSpelled, decoded};
-ghost use Rattle.rv_traps.specs.Trap.{due};
+ghost use Rattle.rv_isa.specs.Table.{IsEncodable, decode};
+ghost use Rattle.rv_traps.specs.Trap.{pending_interrupt};
 ghost use Rattle.rv_core.specs.Effect.{IsWordOf};
 ghost use Rattle.colo_top.specs.Boot.{boot_state, HasNumber, IsCaseOf};
 ghost use Rattle.colo_top.specs.Machine.{stepped, after_steps, turned, acted, obeyed, performed, trapped};
@@ -137,8 +137,8 @@ impl Machine {
     /// Enters the interrupt that is due, or else obeys the word at pc.
     #[inline(always)]
     fn act(&mut self) -> Result<(), TurnFault>
-        ensures ok { OnOk result (acted self.old (due self.old.csrs) ≡ Some self.new) }
-        ensures not_built { IsErrOf result TurnFault.NotBuilt → acted self.old (due self.old.csrs) ≡ None }
+        ensures ok { OnOk result (acted self.old (pending_interrupt self.old.csrs) ≡ Some self.new) }
+        ensures not_built { IsErrOf result TurnFault.NotBuilt → acted self.old (pending_interrupt self.old.csrs) ≡ None }
     {
         if let Some(cause) = self.csrs.pending() {
             self.enter(cause, 0);
@@ -157,8 +157,8 @@ impl Machine {
     /// Obeys the instruction of a word.
     #[inline(always)]
     fn obey(&mut self, word: u32) -> Result<(), TurnFault>
-        ensures ok { OnOk result (obeyed self.old word (decoded word) ≡ Some self.new) }
-        ensures not_built { IsErrOf result TurnFault.NotBuilt → obeyed self.old word (decoded word) ≡ None }
+        ensures ok { OnOk result (obeyed self.old word (decode word) ≡ Some self.new) }
+        ensures not_built { IsErrOf result TurnFault.NotBuilt → obeyed self.old word (decode word) ≡ None }
     {
         let Some(instr) = decode(word) else {
             self.enter(ILLEGAL_INSTRUCTION, word);
@@ -175,7 +175,7 @@ impl Machine {
     #[tactic(auto, unfolding(crate::specs::Machine::performed))]
     #[inline(always)]
     fn perform(&mut self, instr: &Instr) -> Result<(), TurnFault>
-        requires { IsSpelled instr.now }
+        requires { IsEncodable instr.now }
         ensures ok { (word : ℕ) → IsWordOf word instr.now → OnOk result (self.new ≡ performed self.old word instr.now) }
         ensures built { IsErrOf result TurnFault.NotBuilt → ⊥ }
     {

@@ -6,10 +6,10 @@ use Rattle.std.specs.Str.{bytes_eq}
 use Rattle.std.proofs.lemmas.Bool.{ne_eqb, ltb-true}
 use Rattle.std.proofs.lemmas.List.{length-append}
 use Rattle.rv_isa.specs.Ranges.{IsWithin}
-use Rattle.rv_isa.specs.Table.{decoded}
+use Rattle.rv_isa.specs.Table.{decode}
 use Rattle.rv_isa.specs.declared.instr.Instr.{Instr}
 use Rattle.rv_isa.specs.declared.instr.Instr.TheVariants.{Lui, Auipc, Jal, Jalr, Beq, Bne, Blt, Bge, Bltu, Bgeu, Lb, Lh, Lw, Lbu, Lhu, Sb, Sh, Sw, Addi, Slti, Sltiu, Xori, Ori, Andi, Slli, Srli, Srai, Add, Sll, Slt, Sltu, Xor, Srl, Or, And, Sub, Sra, Mul, Mulh, Mulhsu, Mulhu, Div, Divu, Rem, Remu, Fence, FenceI, Csrrw, Csrrs, Csrrc, Csrrwi, Csrrsi, Csrrci, Ecall, Ebreak, Mret, Wfi, Lr, Sc, AmoSwap, AmoAdd, AmoXor, AmoAnd, AmoOr, AmoMin, AmoMax, AmoMinu, AmoMaxu}
-use Rattle.rv_isa.proofs.Within.{within}
+use Rattle.rv_isa.proofs.RangeLemmas.{within}
 use Rattle.rv_text.specs.Cuts.{cut}
 use Rattle.rv_asm.specs.declared.kinds.Fields.{Fields}
 use Rattle.rv_asm.specs.declared.kinds.Kind.{Kind}
@@ -192,14 +192,14 @@ data_program word below = program_of (codes ".word") (kinds.Word ∷ []) (record
 data_law : (word : ℕ) → word < 2 ^ 32 → Assembles (data_text word) (word ∷ [])
 data_law word below = (Data word ∷ [], data_program word below, (word ∷ [], [], refl, refl, refl))
 
-by_choice : (b : Bool) (i : Instr) (word : ℕ) → has_statement i ≡ b → word < 2 ^ 32 → decoded word ≡ Some i → IsWithin i → Assembles (cond b (form_text (form_of i)) (data_text word)) (word ∷ [])
+by_choice : (b : Bool) (i : Instr) (word : ℕ) → has_statement i ≡ b → word < 2 ^ 32 → decode word ≡ Some i → IsWithin i → Assembles (cond b (form_text (form_of i)) (data_text word)) (word ∷ [])
 by_choice true i word has below e w = (Says i ∷ [], instr_program i has w, (word ∷ [], [], (word, below, e, refl), refl, refl))
 by_choice false i word has below e w = data_law word below
 
-by_row : (o : Option Instr) (word : ℕ) → word < 2 ^ 32 → decoded word ≡ o → IfSome o IsWithin → Assembles (text_by o word) (word ∷ [])
+by_row : (o : Option Instr) (word : ℕ) → word < 2 ^ 32 → decode word ≡ o → IfSome o IsWithin → Assembles (text_by o word) (word ∷ [])
 by_row None word below e w = data_law word below
 by_row (Some i) word below e w = by_choice (has_statement i) i word refl below e w
 
 pub text_assembles : (word : ℕ) → word < 2 ^ 32 → Assembles (text_of word) (word ∷ [])
 unfolding text_of
-text_assembles word below = by_row (decoded word) word below refl (within word below)
+text_assembles word below = by_row (decode word) word below refl (within word below)

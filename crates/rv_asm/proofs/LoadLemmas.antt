@@ -4,9 +4,9 @@ use Rattle.std.proofs.lemmas.Bool.{cases_lt, cond-true, cond-false, lt-ltb, le-l
 use Rattle.std.proofs.lemmas.Int.{ints}
 use Rattle.rv_isa.specs.Fields.{signed}
 use Rattle.rv_isa.specs.Ranges.{IsSigned}
-use Rattle.rv_isa.specs.Table.{IsSpelled}
+use Rattle.rv_isa.specs.Table.{IsEncodable}
 use Rattle.rv_isa.specs.declared.instr.Instr.TheVariants.{Lui, Addi}
-use Rattle.rv_isa.proofs.Said.{spelled_within}
+use Rattle.rv_isa.proofs.EncodeLemmas.{encodable_in_range}
 use Rattle.rv_asm.specs.Statements.{upper_part, lower_part}
 
 -- a number without its sign bit, and one with it
@@ -25,8 +25,8 @@ signed_12 n l =
       | inr h ↦ let e : signed 12 n ≡ negsuc (2 ^ 12 - suc n) = signed_high 12 n h l in (omega (arith, ints), omega (arith, ints))
     ]
 
-pub upper_spelled : (rd value : ℕ) → rd < 32 → IsSpelled (Lui rd (upper_part value))
-upper_spelled rd value h = spelled_within (Lui rd (upper_part value)) (h, omega arith)
+pub upper_spelled : (rd value : ℕ) → rd < 32 → IsEncodable (Lui rd (upper_part value))
+upper_spelled rd value h = encodable_in_range (Lui rd (upper_part value)) (h, omega arith)
 
-pub lower_spelled : (rd value : ℕ) → rd < 32 → IsSpelled (Addi rd rd (lower_part value))
-lower_spelled rd value h = spelled_within (Addi rd rd (lower_part value)) (h, h, signed_12 (value % 2 ^ 12) (omega arith))
+pub lower_spelled : (rd value : ℕ) → rd < 32 → IsEncodable (Addi rd rd (lower_part value))
+lower_spelled rd value h = encodable_in_range (Addi rd rd (lower_part value)) (h, h, signed_12 (value % 2 ^ 12) (omega arith))

@@ -3,7 +3,7 @@ use Rattle.std.proofs.Common.{◌≡◌, ℕ, ◌<◌, Bool, true, false, cond, 
 use Rattle.std.specs.Prelude.{codes}
 use Rattle.std.specs.Str.{bytes_eq}
 use Rattle.rv_isa.specs.Ranges.{IsWithin}
-use Rattle.rv_isa.proofs.Said.{spelled_within}
+use Rattle.rv_isa.proofs.EncodeLemmas.{encodable_in_range}
 use Rattle.rv_isa.specs.declared.instr.Instr.{Instr}
 use Rattle.rv_isa.specs.declared.instr.Instr.TheVariants.{Lui, Auipc, Jal, Jalr, Beq, Bne, Blt, Bge, Bltu, Bgeu, Lb, Lh, Lw, Lbu, Lhu, Sb, Sh, Sw, Addi, Slti, Sltiu, Xori, Ori, Andi, Slli, Srli, Srai, Add, Sll, Slt, Sltu, Xor, Srl, Or, And, Sub, Sra, Mul, Mulh, Mulhsu, Mulhu, Div, Divu, Rem, Remu, Fence, FenceI, Csrrw, Csrrs, Csrrc, Csrrwi, Csrrsi, Csrrci, Ecall, Ebreak, Mret, Wfi, Lr, Sc, AmoSwap, AmoAdd, AmoXor, AmoAnd, AmoOr, AmoMin, AmoMax, AmoMinu, AmoMaxu}
 use Rattle.rv_text.specs.Cuts.{cut}
@@ -94,7 +94,7 @@ row_said : (places : List ℕ → Option ℕ) (here : ℕ) (row : Option Instr) 
 row_said places here None rest m e = absurd cc
 row_said places here (Some row) rest m e =
     let a = bind_ok (operands places here (form_of row).operands rest blank) (λ f. Ok (Says (filled row f))) m e in
-    subst IsSaid (ok_is (Says (filled row a.0)) m a.2) (spelled_within (filled row a.0) (operands_after places here (form_of row).operands rest blank a.0 (λ g. IsWithin (filled row g)) a.1 (within_filled row)))
+    subst IsSaid (ok_is (Says (filled row a.0)) m a.2) (encodable_in_range (filled row a.0) (operands_after places here (form_of row).operands rest blank a.0 (λ g. IsWithin (filled row g)) a.1 (within_filled row)))
 
 data_said : (places : List ℕ → Option ℕ) (here : ℕ) (rest : Option (List ℕ)) (m : Meaning) → data_of places here rest ≡ Ok m → IsSaid m
 data_said places here rest m e =

@@ -1,7 +1,7 @@
 -- A text has one list of words.
 use Rattle.std.proofs.Common.{◌≡◌, ℕ, List, [], ◌∷◌, ◌++◌, Result, Ok, sym, ap, subst, ◌∙◌}
 use Rattle.rv_isa.specs.declared.instr.Instr.TheVariants.{Lui, Addi}
-use Rattle.rv_isa.proofs.Back.{word_back}
+use Rattle.rv_isa.proofs.OneWordLemmas.{word_back}
 use Rattle.rv_asm.specs.declared.statements.Meaning.{Meaning}
 use Rattle.rv_asm.specs.declared.statements.Meaning.TheVariants.{Data, Says, Loads}
 use Rattle.rv_asm.specs.Program.{Bad, AreAllWords, HaveWords}

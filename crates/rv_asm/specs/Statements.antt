@@ -4,7 +4,7 @@ use Rattle.std.specs.List.{flat_map}
 use Rattle.std.specs.Int.{w32, to_le_bytes}
 use Rattle.std.specs.Str.{bytes_eq}
 use Rattle.rv_isa.specs.Fields.{signed}
-use Rattle.rv_isa.specs.Table.{decoded, IsSpelled}
+use Rattle.rv_isa.specs.Table.{decode, IsEncodable}
 use Rattle.rv_isa.specs.declared.instr.Instr.{Instr}
 use Rattle.rv_isa.specs.declared.instr.Instr.TheVariants.{Lui, Addi}
 use Rattle.rv_text.specs.Cuts.{cut}
@@ -47,14 +47,14 @@ lower_part n = signed 12 (n % 2 ^ 12)
 -- the words of a statement: a word says an instruction by the instruction table, and `li` is LUI and ADDI
 abbrev pub AreWords : Meaning → List ℕ → Type 0
 AreWords (Data word) words = words ≡ word ∷ []
-AreWords (Says instr) words = (word : ℕ) × (word < 2 ^ 32) × (decoded word ≡ Some instr) × (words ≡ word ∷ [])
+AreWords (Says instr) words = (word : ℕ) × (word < 2 ^ 32) × (decode word ≡ Some instr) × (words ≡ word ∷ [])
 AreWords (Loads rd value) words =
-    (first : ℕ) × (second : ℕ) × (first < 2 ^ 32) × (second < 2 ^ 32) × (decoded first ≡ Some (Lui rd (upper_part value))) × (decoded second ≡ Some (Addi rd rd (lower_part value))) × (words ≡ first ∷ second ∷ [])
+    (first : ℕ) × (second : ℕ) × (first < 2 ^ 32) × (second < 2 ^ 32) × (decode first ≡ Some (Lui rd (upper_part value))) × (decode second ≡ Some (Addi rd rd (lower_part value))) × (words ≡ first ∷ second ∷ [])
 
 -- some word says it
 abbrev pub IsSaid : Meaning → Type 0
 IsSaid (Data word) = Unit {0}
-IsSaid (Says instr) = IsSpelled instr
+IsSaid (Says instr) = IsEncodable instr
 IsSaid (Loads rd value) = rd < 32
 
 -- the bytes with those of the statement's words behind them, each little-endian

@@ -1,6 +1,6 @@
 -- The text of a word.
 use Rattle.std.specs.Prelude.{ℕ, ℤ, pos, negsuc, suc, List, [], ◌∷◌, ◌++◌, Option, Some, None, codes, if◌then◌else◌}
-use Rattle.rv_isa.specs.Table.{decoded}
+use Rattle.rv_isa.specs.Table.{decode}
 use Rattle.rv_isa.specs.declared.instr.Instr.{Instr}
 use Rattle.rv_text.specs.Writing.{numeral, last_digits}
 use Rattle.rv_asm.specs.declared.kinds.Fields.{Fields}
@@ -62,4 +62,4 @@ text_by None word = data_text word
 text_by (Some instr) word = if has_statement instr then form_text (form_of instr) else data_text word
 
 unfoldable pub text_of : ℕ → List ℕ
-text_of word = text_by (decoded word) word
+text_of word = text_by (decode word) word

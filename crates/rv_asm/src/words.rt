@@ -3,7 +3,7 @@
 ghost use Rattle.std.specs.Prelude.{◌≡◌, ◌++◌, ◌<◌, ◌^◌, ℕ, List, OnOk};
 ghost use Rattle.std.specs.Int.{w32, to_le_bytes};
 ghost use Rattle.rv_asm.specs.declared.statements.Meaning.TheVariants.{Data, Says, Loads};
-ghost use Rattle.rv_isa.specs.Table.{IsSpelled};
+ghost use Rattle.rv_isa.specs.Table.{IsEncodable};
 ghost use Rattle.rv_isa.specs.declared.instr.Instr.TheVariants.{Lui, Addi};
 ghost use Rattle.rv_asm.specs.Statements.{upper_part, lower_part, AreWords, IsSaid, Writes};
 
@@ -51,7 +51,7 @@ fn push_data(bytes: &mut Vec<u8>, word: u32) -> Result<(), AllocError>
 }
 
 fn push_instr(bytes: &mut Vec<u8>, instr: Instr) -> Result<(), AllocError>
-    requires { IsSpelled instr }
+    requires { IsEncodable instr }
     ensures { OnOk result (Writes bytes.old.items bytes.new.items (Says instr)) }
 {
     push_word(bytes, encode(&instr))

@@ -12,5 +12,5 @@ abbrev pub state_of : HartFields → Regs
 state_of f = record { pc = f.pc; x = 0 ∷ f.x; reserved = f.reserved; address = f.address }
 
 -- what registers can hold: the program counter is a multiple of 4
-abbrev pub IsHeld : HartFields → Type 0
-IsHeld f = f.pc % 4 ≡ 0
+abbrev pub IsLegal : HartFields → Type 0
+IsLegal f = f.pc % 4 ≡ 0

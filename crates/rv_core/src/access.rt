@@ -1,91 +1,85 @@
 //! Loads, stores and the atomic memory operations.
 
-ghost use Rattle.std.specs.Prelude.{◌≡◌, ◌<◌, ◌⊎◌, IfOk};
+ghost use Rattle.std.specs.Prelude.{◌≡◌, ℕ, ◌<◌, ◌⊎◌, IfOk};
 ghost use Rattle.rv_core.specs.Registers.{x_of};
-ghost use Rattle.rv_core.specs.Effect.{plus};
-ghost use Rattle.rv_core.specs.Reach.{done, reached, lands, reserves, loaded_at, word_at, stores_at, stores_if_reserved, modifies};
-ghost use Rattle.rv_core.specs.Choices.{applied, loaded_width, loaded_word, stored_width, stored_part};
+ghost use Rattle.rv_core.specs.Effect.{add_signed};
+ghost use Rattle.rv_core.specs.Reach.{hart_result, bus_result, write_loaded, load_reserved, load_at, word_at, word_to_load, word_to_modify, store_at, store_conditional, modify};
+ghost use Rattle.rv_core.specs.Choices.{apply, load_width, extend_loaded, store_width, store_part};
 
-use crate::arithmetic::{Operation, extend_byte, extend_half, low_byte, low_half};
+use crate::arithmetic::{AluOp, extend_byte, extend_half, low_byte, low_half};
 use crate::buses::Bus;
 use crate::registers::{Hart, Outcome};
 use colo_base::NoMemory;
+use rv_traps::cause::{
+    LOAD_ACCESS_FAULT, LOAD_ADDRESS_MISALIGNED, STORE_ACCESS_FAULT, STORE_ADDRESS_MISALIGNED,
+};
 
-/// The cause of a load from an address that is no multiple of its width.
-const MISALIGNED_LOAD: u32 = 4;
-/// The cause of a load that the bus refuses.
-const LOAD_FAULT: u32 = 5;
-/// The cause of a store to an address that is no multiple of its width.
-const MISALIGNED_STORE: u32 = 6;
-/// The cause of a store that the bus refuses.
-const STORE_FAULT: u32 = 7;
-
-/// What a load reads, and how it fills a word.
+/// The loads: what each reads, and how it fills a word.
 #[derive(Clone, Copy)]
-pub(crate) enum Loaded {
-    SignedByte,
-    SignedHalf,
-    Word,
-    Byte,
-    Half,
+pub(crate) enum Load {
+    Lb,
+    Lh,
+    Lw,
+    Lbu,
+    Lhu,
 }
 
-impl Loaded {
+impl Load {
     #[inline(always)]
     fn width(self) -> u32
-        ensures value { result ≡ loaded_width self }
+        ensures value { result ≡ load_width self }
         ensures range { (result ≡ 1) ⊎ ((result ≡ 2) ⊎ (result ≡ 4)) }
     {
         match self {
-            Loaded::SignedByte | Loaded::Byte => 1,
-            Loaded::SignedHalf | Loaded::Half => 2,
-            Loaded::Word => 4,
+            Load::Lb | Load::Lbu => 1,
+            Load::Lh | Load::Lhu => 2,
+            Load::Lw => 4,
         }
     }
 
     #[inline(always)]
     fn extend(self, value: u32) -> u32
-        ensures { result ≡ loaded_word self value }
+        ensures { result ≡ extend_loaded self value }
     {
         match self {
-            Loaded::SignedByte => extend_byte(value),
-            Loaded::SignedHalf => extend_half(value),
-            Loaded::Word => value,
-            Loaded::Byte => low_byte(value),
-            Loaded::Half => low_half(value),
+            Load::Lb => extend_byte(value),
+            Load::Lh => extend_half(value),
+            Load::Lw => value,
+            Load::Lbu => low_byte(value),
+            Load::Lhu => low_half(value),
         }
     }
 }
 
-/// What a store writes of a word.
+/// The stores: what each writes of a word.
 #[derive(Clone, Copy)]
-pub(crate) enum Stored {
-    LowByte,
-    LowHalf,
-    WholeWord,
+pub(crate) enum Store {
+    Sb,
+    Sh,
+    Sw,
 }
 
-impl Stored {
+impl Store {
     #[inline(always)]
     fn width(self) -> u32
-        ensures value { result ≡ stored_width self }
+        ensures value { result ≡ store_width self }
         ensures range { (result ≡ 1) ⊎ ((result ≡ 2) ⊎ (result ≡ 4)) }
     {
         match self {
-            Stored::LowByte => 1,
-            Stored::LowHalf => 2,
-            Stored::WholeWord => 4,
+            Store::Sb => 1,
+            Store::Sh => 2,
+            Store::Sw => 4,
         }
     }
 
     #[inline(always)]
     fn part(self, value: u32) -> u32
-        ensures { result ≡ stored_part self value }
+        ensures { result ≡ store_part self value }
     {
         match self {
-            Stored::LowByte => low_byte(value),
-            Stored::LowHalf => low_half(value),
-            Stored::WholeWord => value,
+            Store::Sb => low_byte(value),
+            Store::Sh => low_half(value),
+            Store::Sw => value,
         }
     }
 }
@@ -94,17 +88,17 @@ impl Stored {
 #[inline(always)]
 fn load_at<B: Bus>(bus: &mut B, addr: u32, width: u32) -> Result<u32, Outcome>
     requires { (width ≡ 1) ⊎ ((width ≡ 2) ⊎ (width ≡ 4)) }
-    ensures value { result ≡ loaded_at B.acts bus.old addr width }
+    ensures value { result ≡ load_at B.acts bus.old addr width }
     ensures same { bus.new ≡ bus.old }
 {
     if addr % width != 0 {
         return Err(Outcome::Trap {
-            cause: MISALIGNED_LOAD,
+            cause: LOAD_ADDRESS_MISALIGNED,
             value: addr,
         });
     }
     bus.load(addr, width).ok_or(Outcome::Trap {
-        cause: LOAD_FAULT,
+        cause: LOAD_ACCESS_FAULT,
         value: addr,
     })
 }
@@ -132,7 +126,7 @@ impl Hart {
     #[inline(always)]
     fn address(&self, rs1: u8, imm: i32) -> u32
         requires { rs1 < 32 }
-        ensures { result ≡ plus (x_of self.now rs1) imm }
+        ensures { result ≡ add_signed (x_of self.now rs1) imm }
     {
         self.at(rs1).wrapping_add_signed(imm)
     }
@@ -141,7 +135,7 @@ impl Hart {
     #[inline(always)]
     pub(crate) fn load<B: Bus>(
         &mut self,
-        kind: Loaded,
+        kind: Load,
         rd: u8,
         rs1: u8,
         imm: i32,
@@ -149,8 +143,10 @@ impl Hart {
     ) -> Outcome
         requires target { rd < 32 }
         requires source { rs1 < 32 }
-        ensures done { done result self.new
-            ≡ lands self.old rd (loaded_word kind) (loaded_at B.acts bus.old (plus (x_of self.old rs1) imm) (loaded_width kind)) }
+        ensures done { let addr = add_signed (x_of self.old rs1) imm in
+            hart_result result self.new
+            ≡ write_loaded self.old rd (extend_loaded kind)
+            (load_at B.acts bus.old addr (load_width kind)) }
         ensures same { bus.new ≡ bus.old }
     {
         match load_at(bus, self.address(rs1, imm), kind.width()) {
@@ -163,7 +159,7 @@ impl Hart {
     #[inline(always)]
     pub(crate) fn store<B: Bus>(
         &mut self,
-        kind: Stored,
+        kind: Store,
         rs1: u8,
         rs2: u8,
         imm: i32,
@@ -171,14 +167,16 @@ impl Hart {
     ) -> Result<Outcome, NoMemory>
         requires base { rs1 < 32 }
         requires source { rs2 < 32 }
-        ensures { IfOk result (λ o. reached o self.new bus.new
-            ≡ stores_at B.acts self.old bus.old (plus (x_of self.old rs1) imm) (stored_width kind) (stored_part kind (x_of self.old rs2))) }
+        ensures { let addr = add_signed (x_of self.old rs1) imm in
+            let value = store_part kind (x_of self.old rs2) in
+            IfOk result (λ o. bus_result o self.new bus.new
+            ≡ store_at B.acts self.old bus.old addr (store_width kind) value) }
     {
         let addr = self.address(rs1, imm);
         let width = kind.width();
         if addr % width != 0 {
             return Ok(Outcome::Trap {
-                cause: MISALIGNED_STORE,
+                cause: STORE_ADDRESS_MISALIGNED,
                 value: addr,
             });
         }
@@ -187,7 +185,7 @@ impl Hart {
             Ok(self.go_on())
         } else {
             Ok(Outcome::Trap {
-                cause: STORE_FAULT,
+                cause: STORE_ACCESS_FAULT,
                 value: addr,
             })
         }
@@ -198,12 +196,13 @@ impl Hart {
     pub(crate) fn load_reserved<B: Bus>(&mut self, rd: u8, rs1: u8, bus: &mut B) -> Outcome
         requires target { rd < 32 }
         requires source { rs1 < 32 }
-        ensures done { done result self.new
-            ≡ reserves self.old rd (x_of self.old rs1) (word_at B.acts bus.old 4 5 (x_of self.old rs1)) }
+        ensures done { let addr = x_of self.old rs1 in
+            hart_result result self.new
+            ≡ load_reserved self.old rd addr (word_to_load B.acts bus.old addr) }
         ensures same { bus.new ≡ bus.old }
     {
         let addr = self.at(rs1);
-        match word_at(bus, MISALIGNED_LOAD, LOAD_FAULT, addr) {
+        match word_at(bus, LOAD_ADDRESS_MISALIGNED, LOAD_ACCESS_FAULT, addr) {
             Ok(value) => {
                 self.reserve(addr);
                 self.put(rd, value)
@@ -224,11 +223,13 @@ impl Hart {
         requires target { rd < 32 }
         requires base { rs1 < 32 }
         requires source { rs2 < 32 }
-        ensures { IfOk result (λ o. reached o self.new bus.new
-            ≡ stores_if_reserved B.acts self.old bus.old rd (x_of self.old rs1) (x_of self.old rs2) (word_at B.acts bus.old 6 7 (x_of self.old rs1))) }
+        ensures { let addr = x_of self.old rs1 in
+            let word = word_to_modify B.acts bus.old addr in
+            IfOk result (λ o. bus_result o self.new bus.new
+            ≡ store_conditional B.acts self.old bus.old rd addr (x_of self.old rs2) word) }
     {
         let addr = self.at(rs1);
-        if let Err(trap) = word_at(bus, MISALIGNED_STORE, STORE_FAULT, addr) {
+        if let Err(trap) = word_at(bus, STORE_ADDRESS_MISALIGNED, STORE_ACCESS_FAULT, addr) {
             return Ok(trap);
         }
         let value = self.at(rs2);
@@ -246,7 +247,7 @@ impl Hart {
     #[inline(always)]
     pub(crate) fn modify<B: Bus>(
         &mut self,
-        operation: Operation,
+        operation: AluOp,
         rd: u8,
         rs1: u8,
         rs2: u8,
@@ -255,11 +256,13 @@ impl Hart {
         requires target { rd < 32 }
         requires base { rs1 < 32 }
         requires source { rs2 < 32 }
-        ensures { IfOk result (λ o. reached o self.new bus.new
-            ≡ modifies B.acts self.old bus.old rd (x_of self.old rs1) (λ old. applied operation old (x_of self.old rs2)) (word_at B.acts bus.old 6 7 (x_of self.old rs1))) }
+        ensures { let addr = x_of self.old rs1 in
+            let new : ℕ → ℕ = λ old. apply operation old (x_of self.old rs2) in
+            IfOk result (λ o. bus_result o self.new bus.new
+            ≡ modify B.acts self.old bus.old rd addr new (word_to_modify B.acts bus.old addr)) }
     {
         let addr = self.at(rs1);
-        match word_at(bus, MISALIGNED_STORE, STORE_FAULT, addr) {
+        match word_at(bus, STORE_ADDRESS_MISALIGNED, STORE_ACCESS_FAULT, addr) {
             Ok(old) => {
                 let new = operation.apply(old, self.at(rs2));
                 let _taken = bus.store(addr, 4, new)?;

@@ -2,66 +2,66 @@
 
 ghost use Rattle.std.specs.Prelude.{◌≡◌, ◌*ℤ◌};
 ghost use Rattle.std.specs.Int.{int_shr};
-ghost use Rattle.rv_core.specs.Arithmetic.{word_of, sign_extended, zero_extended, less, below, shifted_left, shifted_right, shifted_right_signed, product_high, product_high_mixed, product_high_unsigned, quotient, quotient_unsigned, remainder, remainder_unsigned, least, greatest, least_unsigned, greatest_unsigned};
-ghost use Rattle.rv_core.specs.Choices.{applied, compares};
+ghost use Rattle.rv_core.specs.Arithmetic.{word_of, sign_extended, zero_extended, slt, sltu, sll, srl, sra, mulh, mulhsu, mulhu, div, divu, rem, remu, min, max, minu, maxu};
+ghost use Rattle.rv_core.specs.Choices.{apply, holds};
 
 /// An operation on two words. `Second` gives the second.
 #[derive(Clone, Copy)]
-pub(crate) enum Operation {
-    Sum,
-    Difference,
-    Less,
-    Below,
-    ShiftLeft,
-    ShiftRight,
-    ShiftRightSigned,
+pub(crate) enum AluOp {
+    Add,
+    Sub,
+    Slt,
+    Sltu,
+    Sll,
+    Srl,
+    Sra,
     And,
     Or,
     Xor,
-    Product,
-    ProductHigh,
-    ProductHighMixed,
-    ProductHighUnsigned,
-    Quotient,
-    QuotientUnsigned,
-    Remainder,
-    RemainderUnsigned,
-    Second,
-    Least,
-    Greatest,
-    LeastUnsigned,
-    GreatestUnsigned,
+    Mul,
+    Mulh,
+    Mulhsu,
+    Mulhu,
+    Div,
+    Divu,
+    Rem,
+    Remu,
+    Swap,
+    Min,
+    Max,
+    Minu,
+    Maxu,
 }
 
-impl Operation {
+impl AluOp {
     #[inline(always)]
     pub(crate) fn apply(self, a: u32, b: u32) -> u32
-        ensures { result ≡ applied self a b }
+        ensures { result ≡ apply self a b }
     {
         match self {
-            Operation::Sum => a.wrapping_add(b),
-            Operation::Difference => a.wrapping_sub(b),
-            Operation::Less => is_less(a, b),
-            Operation::Below => is_below(a, b),
-            Operation::ShiftLeft => shift_left(a, b),
-            Operation::ShiftRight => shift_right(a, b),
-            Operation::ShiftRightSigned => shift_right_signed(a, b),
-            Operation::And => a & b,
-            Operation::Or => a | b,
-            Operation::Xor => a ^ b,
-            Operation::Product => a.wrapping_mul(b),
-            Operation::ProductHigh => multiply_high(a, b),
-            Operation::ProductHighMixed => multiply_high_mixed(a, b),
-            Operation::ProductHighUnsigned => multiply_high_unsigned(a, b),
-            Operation::Quotient => divide(a, b),
-            Operation::QuotientUnsigned => divide_unsigned(a, b),
-            Operation::Remainder => remain(a, b),
-            Operation::RemainderUnsigned => remain_unsigned(a, b),
-            Operation::Second => b,
-            Operation::Least => lesser(a, b),
-            Operation::Greatest => greater(a, b),
-            Operation::LeastUnsigned => lesser_unsigned(a, b),
-            Operation::GreatestUnsigned => greater_unsigned(a, b),
+            AluOp::Add => a.wrapping_add(b),
+            AluOp::Sub => a.wrapping_sub(b),
+            AluOp::Slt => slt(a, b),
+            AluOp::Sltu => sltu(a, b),
+            AluOp::Sll => sll(a, b),
+            AluOp::Srl => srl(a, b),
+            AluOp::Sra => sra(a, b),
+            AluOp::And => a & b,
+            AluOp::Or => a | b,
+            AluOp::Xor => a ^ b,
+            AluOp::Mul => a.wrapping_mul(b),
+            AluOp::Mulh => mulh(a, b),
+            AluOp::Mulhsu => mulhsu(a, b),
+            AluOp::Mulhu => mulhu(a, b),
+            AluOp::Div => div(a, b),
+            AluOp::Divu => divu(a, b),
+            AluOp::Rem => rem(a, b),
+            AluOp::Remu => remu(a, b),
+            AluOp::Swap => b,
+            AluOp::Min => min(a, b),
+            AluOp::Max => max(a, b),
+            AluOp::Minu => minu(a, b),
+            AluOp::Maxu => maxu(a, b),
         }
     }
 }
@@ -69,26 +69,26 @@ impl Operation {
 /// A comparison of two words.
 #[derive(Clone, Copy)]
 pub(crate) enum Comparison {
-    Equal,
-    NotEqual,
-    SignedBelow,
-    NotSignedBelow,
-    UnsignedBelow,
-    NotUnsignedBelow,
+    Eq,
+    Ne,
+    Lt,
+    Ge,
+    Ltu,
+    Geu,
 }
 
 impl Comparison {
     #[inline(always)]
     pub(crate) fn holds(self, a: u32, b: u32) -> bool
-        ensures { result ≡ compares self a b }
+        ensures { result ≡ holds self a b }
     {
         match self {
-            Comparison::Equal => a == b,
-            Comparison::NotEqual => a != b,
-            Comparison::SignedBelow => a.cast_signed() < b.cast_signed(),
-            Comparison::NotSignedBelow => a.cast_signed() >= b.cast_signed(),
-            Comparison::UnsignedBelow => a < b,
-            Comparison::NotUnsignedBelow => a >= b,
+            Comparison::Eq => a == b,
+            Comparison::Ne => a != b,
+            Comparison::Lt => a.cast_signed() < b.cast_signed(),
+            Comparison::Ge => a.cast_signed() >= b.cast_signed(),
+            Comparison::Ltu => a < b,
+            Comparison::Geu => a >= b,
         }
     }
 }
@@ -98,8 +98,8 @@ impl Comparison {
 pub(crate) fn extend_byte(a: u32) -> u32
     ensures { result ≡ sign_extended 8 a }
 {
-    let low = a & 0xff;
-    if low < 0x80 { low } else { low + 0xffff_ff00 }
+    let low = a & 0xFF;
+    if low < 0x80 { low } else { low + 0xFFFF_FF00 }
 }
 
 /// The lowest two bytes, with copies of their sign bit above.
@@ -107,8 +107,8 @@ pub(crate) fn extend_byte(a: u32) -> u32
 pub(crate) fn extend_half(a: u32) -> u32
     ensures { result ≡ sign_extended 16 a }
 {
-    let low = a & 0xffff;
-    if low < 0x8000 { low } else { low + 0xffff_0000 }
+    let low = a & 0xFFFF;
+    if low < 0x8000 { low } else { low + 0xFFFF_0000 }
 }
 
 /// The lowest byte.
@@ -116,7 +116,7 @@ pub(crate) fn extend_half(a: u32) -> u32
 pub(crate) fn low_byte(a: u32) -> u32
     ensures { result ≡ zero_extended 8 a }
 {
-    a & 0xff
+    a & 0xFF
 }
 
 /// The lowest two bytes.
@@ -124,12 +124,12 @@ pub(crate) fn low_byte(a: u32) -> u32
 pub(crate) fn low_half(a: u32) -> u32
     ensures { result ≡ zero_extended 16 a }
 {
-    a & 0xffff
+    a & 0xFFFF
 }
 
 #[inline(always)]
-fn is_less(a: u32, b: u32) -> u32
-    ensures { result ≡ less a b }
+fn slt(a: u32, b: u32) -> u32
+    ensures { result ≡ slt a b }
 {
     if a.cast_signed() < b.cast_signed() {
         1
@@ -139,50 +139,50 @@ fn is_less(a: u32, b: u32) -> u32
 }
 
 #[inline(always)]
-fn is_below(a: u32, b: u32) -> u32
-    ensures { result ≡ below a b }
+fn sltu(a: u32, b: u32) -> u32
+    ensures { result ≡ sltu a b }
 {
     if a < b { 1 } else { 0 }
 }
 
 #[inline(always)]
-fn shift_left(a: u32, b: u32) -> u32
-    ensures { result ≡ shifted_left a b }
+fn sll(a: u32, b: u32) -> u32
+    ensures { result ≡ sll a b }
 {
     a.wrapping_shl(b)
 }
 
 #[inline(always)]
-fn shift_right(a: u32, b: u32) -> u32
-    ensures { result ≡ shifted_right a b }
+fn srl(a: u32, b: u32) -> u32
+    ensures { result ≡ srl a b }
 {
     a.wrapping_shr(b)
 }
 
 #[inline(always)]
-fn shift_right_signed(a: u32, b: u32) -> u32
-    ensures { result ≡ shifted_right_signed a b }
+fn sra(a: u32, b: u32) -> u32
+    ensures { result ≡ sra a b }
 {
     a.cast_signed().wrapping_shr(b).cast_unsigned()
 }
 
 #[inline(always)]
-fn multiply_high(a: u32, b: u32) -> u32
-    ensures { result ≡ product_high a b }
+fn mulh(a: u32, b: u32) -> u32
+    ensures { result ≡ mulh a b }
 {
-    high(multiply(a.cast_signed(), b.cast_signed()))
+    high_half(product(a.cast_signed(), b.cast_signed()))
 }
 
 #[inline(always)]
-fn multiply_high_mixed(a: u32, b: u32) -> u32
-    ensures { result ≡ product_high_mixed a b }
+fn mulhsu(a: u32, b: u32) -> u32
+    ensures { result ≡ mulhsu a b }
 {
-    high(i64::from(a.cast_signed()) * i64::from(b))
+    high_half(i64::from(a.cast_signed()) * i64::from(b))
 }
 
 /// The whole product.
 #[inline(always)]
-fn multiply(a: i32, b: i32) -> i64
+fn product(a: i32, b: i32) -> i64
     ensures { result ≡ a *ℤ b }
 {
     i64::from(a) * i64::from(b)
@@ -190,22 +190,22 @@ fn multiply(a: i32, b: i32) -> i64
 
 /// The upper half of a product.
 #[inline(always)]
-fn high(product: i64) -> u32
+fn high_half(product: i64) -> u32
     ensures { result ≡ word_of (int_shr product 32) }
 {
     ((product >> 32) as i32).cast_unsigned()
 }
 
 #[inline(always)]
-fn multiply_high_unsigned(a: u32, b: u32) -> u32
-    ensures { result ≡ product_high_unsigned a b }
+fn mulhu(a: u32, b: u32) -> u32
+    ensures { result ≡ mulhu a b }
 {
     (u64::from(a) * u64::from(b) >> 32) as u32
 }
 
 #[inline(always)]
-fn divide(a: u32, b: u32) -> u32
-    ensures { result ≡ quotient a b }
+fn div(a: u32, b: u32) -> u32
+    ensures { result ≡ div a b }
 {
     if b == 0 {
         u32::MAX
@@ -217,15 +217,15 @@ fn divide(a: u32, b: u32) -> u32
 }
 
 #[inline(always)]
-fn divide_unsigned(a: u32, b: u32) -> u32
-    ensures { result ≡ quotient_unsigned a b }
+fn divu(a: u32, b: u32) -> u32
+    ensures { result ≡ divu a b }
 {
     if b == 0 { u32::MAX } else { a / b }
 }
 
 #[inline(always)]
-fn remain(a: u32, b: u32) -> u32
-    ensures { result ≡ remainder a b }
+fn rem(a: u32, b: u32) -> u32
+    ensures { result ≡ rem a b }
 {
     if b == 0 {
         a
@@ -237,15 +237,15 @@ fn remain(a: u32, b: u32) -> u32
 }
 
 #[inline(always)]
-fn remain_unsigned(a: u32, b: u32) -> u32
-    ensures { result ≡ remainder_unsigned a b }
+fn remu(a: u32, b: u32) -> u32
+    ensures { result ≡ remu a b }
 {
     if b == 0 { a } else { a % b }
 }
 
 #[inline(always)]
-fn lesser(a: u32, b: u32) -> u32
-    ensures { result ≡ least a b }
+fn min(a: u32, b: u32) -> u32
+    ensures { result ≡ min a b }
 {
     if b.cast_signed() < a.cast_signed() {
         b
@@ -255,8 +255,8 @@ fn lesser(a: u32, b: u32) -> u32
 }
 
 #[inline(always)]
-fn greater(a: u32, b: u32) -> u32
-    ensures { result ≡ greatest a b }
+fn max(a: u32, b: u32) -> u32
+    ensures { result ≡ max a b }
 {
     if a.cast_signed() < b.cast_signed() {
         b
@@ -266,15 +266,15 @@ fn greater(a: u32, b: u32) -> u32
 }
 
 #[inline(always)]
-fn lesser_unsigned(a: u32, b: u32) -> u32
-    ensures { result ≡ least_unsigned a b }
+fn minu(a: u32, b: u32) -> u32
+    ensures { result ≡ minu a b }
 {
     if b < a { b } else { a }
 }
 
 #[inline(always)]
-fn greater_unsigned(a: u32, b: u32) -> u32
-    ensures { result ≡ greatest_unsigned a b }
+fn maxu(a: u32, b: u32) -> u32
+    ensures { result ≡ maxu a b }
 {
     if a < b { b } else { a }
 }

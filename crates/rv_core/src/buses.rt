@@ -15,16 +15,17 @@ pub trait Bus {
         ensures value { result ≡ acts.fetched self.old addr }
         ensures same { self.new ≡ self.old };
 
-    /// The `width` bytes from `addr` on as a number, least byte first, where they can be loaded.
+    /// The `width` bytes from `addr` on as a number, little-endian, where they can be loaded.
     /// `width` is 1, 2 or 4.
     fn load(&mut self, addr: u32, width: u32) -> Option<u32>
         requires { (width ≡ 1) ⊎ ((width ≡ 2) ⊎ (width ≡ 4)) }
         ensures value { result ≡ acts.loaded self.old addr width }
         ensures same { self.new ≡ self.old };
 
-    /// Stores the lowest `width` bytes of `value` from `addr` on, least byte first. `false` where they
+    /// Stores the lowest `width` bytes of `value` from `addr` on, little-endian. `false` where
+    /// they
     /// can't be stored, and nothing changes then. `width` is 1, 2 or 4. After `NoMemory` nothing is
-    /// said of the bus.
+    /// stated of the bus.
     fn store(&mut self, addr: u32, width: u32, value: u32) -> Result<bool, NoMemory>
         requires { (width ≡ 1) ⊎ ((width ≡ 2) ⊎ (width ≡ 4)) }
         ensures taken { IfOk result (λ taken. taken ≡ acts.stores self.old addr width value) }

@@ -2,48 +2,47 @@
 
 ghost use Rattle.std.specs.Prelude.{◌≡◌, ℕ, ◌<◌, ◌^◌};
 ghost use Rattle.rv_isa.specs.Ranges.{IsWithin};
-ghost use Rattle.rv_traps.specs.CsrTable.{read_of};
-ghost use Rattle.rv_traps.specs.Trap.{returned};
-ghost use Rattle.rv_core.specs.Registers.{x_of, at_pc};
+ghost use Rattle.rv_traps.specs.Cause.{illegal_instruction};
+ghost use Rattle.rv_traps.specs.CsrTable.{read_csr};
+ghost use Rattle.rv_traps.specs.Trap.{return_from_trap};
+ghost use Rattle.rv_core.specs.Registers.{x_of, with_pc};
 ghost use Rattle.rv_core.specs.Effect.{IsWordOf};
-ghost use Rattle.rv_core.specs.Reach.{done, held, beside, accesses};
-ghost use Rattle.rv_core.specs.Choices.{changed_by, is_written_by};
+ghost use Rattle.rv_core.specs.Reach.{hart_result, csr_result, with_csrs, access_csr};
+ghost use Rattle.rv_core.specs.Choices.{csr_change, is_csr_write};
 
 use crate::registers::{Hart, Outcome};
 use rv_isa::{Instr, encode};
 use rv_traps::Csrs;
-
-/// The cause of an illegal instruction.
-const ILLEGAL: u32 = 2;
+use rv_traps::cause::ILLEGAL_INSTRUCTION;
 
 /// What becomes of a CSR: its operand, or itself with the operand's bits set or cleared.
 #[derive(Clone, Copy)]
-pub(crate) enum Change {
-    Replace,
+pub(crate) enum CsrOp {
+    Write,
     Set,
     Clear,
 }
 
-impl Change {
+impl CsrOp {
     #[inline(always)]
     fn apply(self, operand: u32, old: u32) -> u32
-        ensures { result ≡ changed_by self operand old }
+        ensures { result ≡ csr_change self operand old }
     {
         match self {
-            Change::Replace => operand,
-            Change::Set => old | operand,
-            Change::Clear => old & !operand,
+            CsrOp::Write => operand,
+            CsrOp::Set => old | operand,
+            CsrOp::Clear => old & !operand,
         }
     }
 
     /// Whether the CSR is written, by the field of the word that names the operand.
     #[inline(always)]
     fn writes(self, field: u8) -> bool
-        ensures { result ≡ is_written_by self field }
+        ensures { result ≡ is_csr_write self field }
     {
         match self {
-            Change::Replace => true,
-            Change::Set | Change::Clear => field != 0,
+            CsrOp::Write => true,
+            CsrOp::Set | CsrOp::Clear => field != 0,
         }
     }
 }
@@ -53,7 +52,7 @@ impl Change {
 struct Access {
     csr: u32,
     rd: u8,
-    change: Change,
+    change: CsrOp,
     operand: u32,
     writes: bool,
 }
@@ -62,10 +61,10 @@ struct Access {
 #[inline(never)]
 fn illegal(instr: &Instr) -> Outcome
     requires { IsWithin instr.now }
-    ensures { (w : ℕ) → IsWordOf w instr.now → result ≡ Outcome.Trap 2 w }
+    ensures { (w : ℕ) → IsWordOf w instr.now → result ≡ Outcome.Trap illegal_instruction w }
 {
     Outcome::Trap {
-        cause: ILLEGAL,
+        cause: ILLEGAL_INSTRUCTION,
         value: encode(instr),
     }
 }
@@ -75,7 +74,7 @@ impl Hart {
     #[inline(always)]
     pub(crate) fn access_by_register(
         &mut self,
-        change: Change,
+        change: CsrOp,
         rd: u8,
         rs1: u8,
         csr: u32,
@@ -85,8 +84,10 @@ impl Hart {
         requires within { IsWithin instr.now }
         requires target { rd < 32 }
         requires source { rs1 < 32 }
-        ensures { (w : ℕ) → IsWordOf w instr.now → held result self.new csrs.new
-            ≡ accesses self.old csrs.old w rd csr (is_written_by change rs1) (changed_by change (x_of self.old rs1)) (read_of csrs.old csr) }
+        ensures { let is_write = is_csr_write change rs1 in
+            let new = csr_change change (x_of self.old rs1) in
+            (w : ℕ) → IsWordOf w instr.now → csr_result result self.new csrs.new
+            ≡ access_csr self.old csrs.old w rd csr is_write new (read_csr csrs.old csr) }
     {
         let access = Access {
             csr,
@@ -102,7 +103,7 @@ impl Hart {
     #[inline(always)]
     pub(crate) fn access_by_number(
         &mut self,
-        change: Change,
+        change: CsrOp,
         rd: u8,
         imm: u8,
         csr: u32,
@@ -111,8 +112,10 @@ impl Hart {
     ) -> Outcome
         requires within { IsWithin instr.now }
         requires target { rd < 32 }
-        ensures { (w : ℕ) → IsWordOf w instr.now → held result self.new csrs.new
-            ≡ accesses self.old csrs.old w rd csr (is_written_by change imm) (changed_by change imm) (read_of csrs.old csr) }
+        ensures { let is_write = is_csr_write change imm in
+            let new = csr_change change imm in
+            (w : ℕ) → IsWordOf w instr.now → csr_result result self.new csrs.new
+            ≡ access_csr self.old csrs.old w rd csr is_write new (read_csr csrs.old csr) }
     {
         let access = Access {
             csr,
@@ -124,11 +127,14 @@ impl Hart {
         self.access(access, instr, csrs)
     }
 
+    /// A CSR instruction.
     fn access(&mut self, access: Access, instr: &Instr, csrs: &mut Csrs) -> Outcome
         requires within { IsWithin instr.now }
         requires target { access.rd < 32 }
-        ensures { (w : ℕ) → IsWordOf w instr.now → held result self.new csrs.new
-            ≡ accesses self.old csrs.old w access.rd access.csr access.writes (changed_by access.change access.operand) (read_of csrs.old access.csr) }
+        ensures { let new = csr_change access.change access.operand in
+            let old = read_csr csrs.old access.csr in
+            (w : ℕ) → IsWordOf w instr.now → csr_result result self.new csrs.new
+            ≡ access_csr self.old csrs.old w access.rd access.csr access.writes new old }
     {
         let Access {
             csr,
@@ -153,8 +159,8 @@ impl Hart {
     /// MRET.
     #[inline(always)]
     pub(crate) fn leave(&mut self, csrs: &mut Csrs) -> Outcome
-        ensures { held result self.new csrs.new
-            ≡ beside (done Outcome.Next (at_pc self.old csrs.old.mepc)) (returned csrs.old) }
+        ensures { let next = hart_result Outcome.Next (with_pc self.old csrs.old.mepc) in
+            csr_result result self.new csrs.new ≡ with_csrs next (return_from_trap csrs.old) }
     {
         let pc = csrs.leave();
         self.go_to(pc)

@@ -1,31 +1,29 @@
 //! What each instruction does.
 
 ghost use Rattle.std.specs.Prelude.{◌≡◌, ℕ, ◌*◌, ◌^◌, ◌<◌, IfOk, IsErr};
-ghost use Rattle.rv_isa.specs.Table.{IsSpelled};
+ghost use Rattle.rv_isa.specs.Table.{IsEncodable};
 ghost use Rattle.rv_isa.specs.Ranges.{IsWithin};
 ghost use Rattle.rv_core.specs.Registers.{x_of};
-ghost use Rattle.rv_core.specs.Arithmetic.{sum, word_of};
-ghost use Rattle.rv_core.specs.Effect.{IsWordOf, IsStoring, KeepsOnTrap, effect, plus, even};
-ghost use Rattle.rv_core.specs.Reach.{after, done, puts, jumps, branches};
-ghost use Rattle.rv_core.specs.Choices.{applied, compares};
+ghost use Rattle.rv_core.specs.Arithmetic.{add, word_of};
+ghost use Rattle.rv_core.specs.Effect.{IsWordOf, IsStoring, KeepsOnTrap, effect, add_signed, clear_bit_0};
+ghost use Rattle.rv_core.specs.Reach.{execution_result, hart_result, write_rd, jump, branch};
+ghost use Rattle.rv_core.specs.Choices.{apply, holds};
 
-use crate::access::{Loaded, Stored};
-use crate::arithmetic::{Comparison, Operation};
+use crate::access::{Load, Store};
+use crate::arithmetic::{AluOp, Comparison};
 use crate::buses::Bus;
-use crate::control::Change;
+use crate::control::CsrOp;
 use crate::registers::{Hart, Outcome};
 use colo_base::NoMemory;
 use rv_isa::Instr;
 use rv_traps::Csrs;
-
-/// The cause of EBREAK.
-const BREAKPOINT: u32 = 3;
-/// The cause of ECALL from machine mode.
-const ENVIRONMENT_CALL: u32 = 11;
+use rv_traps::cause::{BREAKPOINT, ENVIRONMENT_CALL_FROM_M_MODE};
 
 impl Hart {
-    /// Executes one instruction over a bus, exactly as its row of the instruction table says. It is one
-    /// that some word says. `Trap` changes no register, no CSR and no memory. `NoMemory` comes only from
+    /// Executes one instruction over a bus, exactly as its row of the instruction table says. Some
+    /// word
+    /// has to decode to it. `Trap` changes no register, no CSR and no memory. `NoMemory` comes only
+    /// from
     /// the bus's `store`, and then nothing is said of the hart, the CSRs and the bus.
     #[tactic(auto, unfolding(crate::specs::Effect::effect))]
     #[inline(always)]
@@ -35,10 +33,12 @@ impl Hart {
         csrs: &mut Csrs,
         bus: &mut B,
     ) -> Result<Outcome, NoMemory>
-        requires { IsSpelled instr.now }
-        ensures effect { (w : ℕ) → IsWordOf w instr.now → IfOk result (λ o. after o self.new csrs.new bus.new
+        requires { IsEncodable instr.now }
+        ensures effect { (w : ℕ) → IsWordOf w instr.now → IfOk result (λ o.
+            execution_result o self.new csrs.new bus.new
             ≡ effect B.acts self.old csrs.old bus.old w instr.now) }
-        ensures trap { IfOk result (λ o. KeepsOnTrap o self.old self.new csrs.old csrs.new bus.old bus.new) }
+        ensures trap { IfOk result (λ o.
+            KeepsOnTrap o self.old self.new csrs.old csrs.new bus.old bus.new) }
         ensures memory { IsErr result → IsStoring instr.now }
     {
         self.perform(instr, csrs, bus)
@@ -54,7 +54,8 @@ impl Hart {
         bus: &mut B,
     ) -> Result<Outcome, NoMemory>
         requires { IsWithin instr.now }
-        ensures effect { (w : ℕ) → IsWordOf w instr.now → IfOk result (λ o. after o self.new csrs.new bus.new
+        ensures effect { (w : ℕ) → IsWordOf w instr.now → IfOk result (λ o.
+            execution_result o self.new csrs.new bus.new
             ≡ effect B.acts self.old csrs.old bus.old w instr.now) }
         ensures memory { IsErr result → IsStoring instr.now }
     {
@@ -63,120 +64,50 @@ impl Hart {
             Instr::Auipc { rd, imm } => Ok(self.put_above_pc(rd, imm)),
             Instr::Jal { rd, imm } => Ok(self.jump_by(rd, imm)),
             Instr::Jalr { rd, rs1, imm } => Ok(self.jump_to(rd, rs1, imm)),
-            Instr::Beq { rs1, rs2, imm } => Ok(self.branch(Comparison::Equal, rs1, rs2, imm)),
-            Instr::Bne { rs1, rs2, imm } => Ok(self.branch(Comparison::NotEqual, rs1, rs2, imm)),
-            Instr::Blt { rs1, rs2, imm } => Ok(self.branch(Comparison::SignedBelow, rs1, rs2, imm)),
-            Instr::Bge { rs1, rs2, imm } => Ok(self.branch(
-                Comparison::NotSignedBelow,
-                rs1,
-                rs2,
-                imm,
-            )),
-            Instr::Bltu { rs1, rs2, imm } => Ok(self.branch(
-                Comparison::UnsignedBelow,
-                rs1,
-                rs2,
-                imm,
-            )),
-            Instr::Bgeu { rs1, rs2, imm } => Ok(self.branch(
-                Comparison::NotUnsignedBelow,
-                rs1,
-                rs2,
-                imm,
-            )),
-            Instr::Lb { rd, rs1, imm } => Ok(self.load(Loaded::SignedByte, rd, rs1, imm, bus)),
-            Instr::Lh { rd, rs1, imm } => Ok(self.load(Loaded::SignedHalf, rd, rs1, imm, bus)),
-            Instr::Lw { rd, rs1, imm } => Ok(self.load(Loaded::Word, rd, rs1, imm, bus)),
-            Instr::Lbu { rd, rs1, imm } => Ok(self.load(Loaded::Byte, rd, rs1, imm, bus)),
-            Instr::Lhu { rd, rs1, imm } => Ok(self.load(Loaded::Half, rd, rs1, imm, bus)),
-            Instr::Sb { rs1, rs2, imm } => self.store(Stored::LowByte, rs1, rs2, imm, bus),
-            Instr::Sh { rs1, rs2, imm } => self.store(Stored::LowHalf, rs1, rs2, imm, bus),
-            Instr::Sw { rs1, rs2, imm } => self.store(Stored::WholeWord, rs1, rs2, imm, bus),
-            Instr::Addi { rd, rs1, imm } => Ok(self.combine_immediate(
-                Operation::Sum,
-                rd,
-                rs1,
-                imm,
-            )),
-            Instr::Slti { rd, rs1, imm } => Ok(self.combine_immediate(
-                Operation::Less,
-                rd,
-                rs1,
-                imm,
-            )),
-            Instr::Sltiu { rd, rs1, imm } => Ok(self.combine_immediate(
-                Operation::Below,
-                rd,
-                rs1,
-                imm,
-            )),
-            Instr::Xori { rd, rs1, imm } => Ok(self.combine_immediate(
-                Operation::Xor,
-                rd,
-                rs1,
-                imm,
-            )),
-            Instr::Ori { rd, rs1, imm } => Ok(self.combine_immediate(Operation::Or, rd, rs1, imm)),
-            Instr::Andi { rd, rs1, imm } => Ok(self.combine_immediate(
-                Operation::And,
-                rd,
-                rs1,
-                imm,
-            )),
-            Instr::Slli { rd, rs1, shamt } => Ok(self.shift(Operation::ShiftLeft, rd, rs1, shamt)),
-            Instr::Srli { rd, rs1, shamt } => Ok(self.shift(Operation::ShiftRight, rd, rs1, shamt)),
-            Instr::Srai { rd, rs1, shamt } => Ok(self.shift(
-                Operation::ShiftRightSigned,
-                rd,
-                rs1,
-                shamt,
-            )),
-            Instr::Add { rd, rs1, rs2 } => Ok(self.combine(Operation::Sum, rd, rs1, rs2)),
-            Instr::Sll { rd, rs1, rs2 } => Ok(self.combine(Operation::ShiftLeft, rd, rs1, rs2)),
-            Instr::Slt { rd, rs1, rs2 } => Ok(self.combine(Operation::Less, rd, rs1, rs2)),
-            Instr::Sltu { rd, rs1, rs2 } => Ok(self.combine(Operation::Below, rd, rs1, rs2)),
-            Instr::Xor { rd, rs1, rs2 } => Ok(self.combine(Operation::Xor, rd, rs1, rs2)),
-            Instr::Srl { rd, rs1, rs2 } => Ok(self.combine(Operation::ShiftRight, rd, rs1, rs2)),
-            Instr::Or { rd, rs1, rs2 } => Ok(self.combine(Operation::Or, rd, rs1, rs2)),
-            Instr::And { rd, rs1, rs2 } => Ok(self.combine(Operation::And, rd, rs1, rs2)),
-            Instr::Sub { rd, rs1, rs2 } => Ok(self.combine(Operation::Difference, rd, rs1, rs2)),
-            Instr::Sra { rd, rs1, rs2 } => Ok(self.combine(
-                Operation::ShiftRightSigned,
-                rd,
-                rs1,
-                rs2,
-            )),
-            Instr::Mul { rd, rs1, rs2 } => Ok(self.combine(Operation::Product, rd, rs1, rs2)),
-            Instr::Mulh { rd, rs1, rs2 } => Ok(self.combine(Operation::ProductHigh, rd, rs1, rs2)),
-            Instr::Mulhsu { rd, rs1, rs2 } => Ok(self.combine(
-                Operation::ProductHighMixed,
-                rd,
-                rs1,
-                rs2,
-            )),
-            Instr::Mulhu { rd, rs1, rs2 } => Ok(self.combine(
-                Operation::ProductHighUnsigned,
-                rd,
-                rs1,
-                rs2,
-            )),
-            Instr::Div { rd, rs1, rs2 } => Ok(self.combine(Operation::Quotient, rd, rs1, rs2)),
-            Instr::Divu { rd, rs1, rs2 } => Ok(self.combine(
-                Operation::QuotientUnsigned,
-                rd,
-                rs1,
-                rs2,
-            )),
-            Instr::Rem { rd, rs1, rs2 } => Ok(self.combine(Operation::Remainder, rd, rs1, rs2)),
-            Instr::Remu { rd, rs1, rs2 } => Ok(self.combine(
-                Operation::RemainderUnsigned,
-                rd,
-                rs1,
-                rs2,
-            )),
+            Instr::Beq { rs1, rs2, imm } => Ok(self.branch(Comparison::Eq, rs1, rs2, imm)),
+            Instr::Bne { rs1, rs2, imm } => Ok(self.branch(Comparison::Ne, rs1, rs2, imm)),
+            Instr::Blt { rs1, rs2, imm } => Ok(self.branch(Comparison::Lt, rs1, rs2, imm)),
+            Instr::Bge { rs1, rs2, imm } => Ok(self.branch(Comparison::Ge, rs1, rs2, imm)),
+            Instr::Bltu { rs1, rs2, imm } => Ok(self.branch(Comparison::Ltu, rs1, rs2, imm)),
+            Instr::Bgeu { rs1, rs2, imm } => Ok(self.branch(Comparison::Geu, rs1, rs2, imm)),
+            Instr::Lb { rd, rs1, imm } => Ok(self.load(Load::Lb, rd, rs1, imm, bus)),
+            Instr::Lh { rd, rs1, imm } => Ok(self.load(Load::Lh, rd, rs1, imm, bus)),
+            Instr::Lw { rd, rs1, imm } => Ok(self.load(Load::Lw, rd, rs1, imm, bus)),
+            Instr::Lbu { rd, rs1, imm } => Ok(self.load(Load::Lbu, rd, rs1, imm, bus)),
+            Instr::Lhu { rd, rs1, imm } => Ok(self.load(Load::Lhu, rd, rs1, imm, bus)),
+            Instr::Sb { rs1, rs2, imm } => self.store(Store::Sb, rs1, rs2, imm, bus),
+            Instr::Sh { rs1, rs2, imm } => self.store(Store::Sh, rs1, rs2, imm, bus),
+            Instr::Sw { rs1, rs2, imm } => self.store(Store::Sw, rs1, rs2, imm, bus),
+            Instr::Addi { rd, rs1, imm } => Ok(self.combine_immediate(AluOp::Add, rd, rs1, imm)),
+            Instr::Slti { rd, rs1, imm } => Ok(self.combine_immediate(AluOp::Slt, rd, rs1, imm)),
+            Instr::Sltiu { rd, rs1, imm } => Ok(self.combine_immediate(AluOp::Sltu, rd, rs1, imm)),
+            Instr::Xori { rd, rs1, imm } => Ok(self.combine_immediate(AluOp::Xor, rd, rs1, imm)),
+            Instr::Ori { rd, rs1, imm } => Ok(self.combine_immediate(AluOp::Or, rd, rs1, imm)),
+            Instr::Andi { rd, rs1, imm } => Ok(self.combine_immediate(AluOp::And, rd, rs1, imm)),
+            Instr::Slli { rd, rs1, shamt } => Ok(self.shift(AluOp::Sll, rd, rs1, shamt)),
+            Instr::Srli { rd, rs1, shamt } => Ok(self.shift(AluOp::Srl, rd, rs1, shamt)),
+            Instr::Srai { rd, rs1, shamt } => Ok(self.shift(AluOp::Sra, rd, rs1, shamt)),
+            Instr::Add { rd, rs1, rs2 } => Ok(self.combine(AluOp::Add, rd, rs1, rs2)),
+            Instr::Sll { rd, rs1, rs2 } => Ok(self.combine(AluOp::Sll, rd, rs1, rs2)),
+            Instr::Slt { rd, rs1, rs2 } => Ok(self.combine(AluOp::Slt, rd, rs1, rs2)),
+            Instr::Sltu { rd, rs1, rs2 } => Ok(self.combine(AluOp::Sltu, rd, rs1, rs2)),
+            Instr::Xor { rd, rs1, rs2 } => Ok(self.combine(AluOp::Xor, rd, rs1, rs2)),
+            Instr::Srl { rd, rs1, rs2 } => Ok(self.combine(AluOp::Srl, rd, rs1, rs2)),
+            Instr::Or { rd, rs1, rs2 } => Ok(self.combine(AluOp::Or, rd, rs1, rs2)),
+            Instr::And { rd, rs1, rs2 } => Ok(self.combine(AluOp::And, rd, rs1, rs2)),
+            Instr::Sub { rd, rs1, rs2 } => Ok(self.combine(AluOp::Sub, rd, rs1, rs2)),
+            Instr::Sra { rd, rs1, rs2 } => Ok(self.combine(AluOp::Sra, rd, rs1, rs2)),
+            Instr::Mul { rd, rs1, rs2 } => Ok(self.combine(AluOp::Mul, rd, rs1, rs2)),
+            Instr::Mulh { rd, rs1, rs2 } => Ok(self.combine(AluOp::Mulh, rd, rs1, rs2)),
+            Instr::Mulhsu { rd, rs1, rs2 } => Ok(self.combine(AluOp::Mulhsu, rd, rs1, rs2)),
+            Instr::Mulhu { rd, rs1, rs2 } => Ok(self.combine(AluOp::Mulhu, rd, rs1, rs2)),
+            Instr::Div { rd, rs1, rs2 } => Ok(self.combine(AluOp::Div, rd, rs1, rs2)),
+            Instr::Divu { rd, rs1, rs2 } => Ok(self.combine(AluOp::Divu, rd, rs1, rs2)),
+            Instr::Rem { rd, rs1, rs2 } => Ok(self.combine(AluOp::Rem, rd, rs1, rs2)),
+            Instr::Remu { rd, rs1, rs2 } => Ok(self.combine(AluOp::Remu, rd, rs1, rs2)),
             Instr::Fence { .. } | Instr::FenceI { .. } | Instr::Wfi => Ok(self.go_on()),
             Instr::Csrrw { rd, rs1, csr } => Ok(self.access_by_register(
-                Change::Replace,
+                CsrOp::Write,
                 rd,
                 rs1,
                 csr,
@@ -184,7 +115,7 @@ impl Hart {
                 csrs,
             )),
             Instr::Csrrs { rd, rs1, csr } => Ok(self.access_by_register(
-                Change::Set,
+                CsrOp::Set,
                 rd,
                 rs1,
                 csr,
@@ -192,7 +123,7 @@ impl Hart {
                 csrs,
             )),
             Instr::Csrrc { rd, rs1, csr } => Ok(self.access_by_register(
-                Change::Clear,
+                CsrOp::Clear,
                 rd,
                 rs1,
                 csr,
@@ -200,7 +131,7 @@ impl Hart {
                 csrs,
             )),
             Instr::Csrrwi { rd, imm, csr } => Ok(self.access_by_number(
-                Change::Replace,
+                CsrOp::Write,
                 rd,
                 imm,
                 csr,
@@ -208,7 +139,7 @@ impl Hart {
                 csrs,
             )),
             Instr::Csrrsi { rd, imm, csr } => Ok(self.access_by_number(
-                Change::Set,
+                CsrOp::Set,
                 rd,
                 imm,
                 csr,
@@ -216,7 +147,7 @@ impl Hart {
                 csrs,
             )),
             Instr::Csrrci { rd, imm, csr } => Ok(self.access_by_number(
-                Change::Clear,
+                CsrOp::Clear,
                 rd,
                 imm,
                 csr,
@@ -224,7 +155,7 @@ impl Hart {
                 csrs,
             )),
             Instr::Ecall => Ok(Outcome::Trap {
-                cause: ENVIRONMENT_CALL,
+                cause: ENVIRONMENT_CALL_FROM_M_MODE,
                 value: 0,
             }),
             Instr::Ebreak => Ok(Outcome::Trap {
@@ -234,39 +165,15 @@ impl Hart {
             Instr::Mret => Ok(self.leave(csrs)),
             Instr::Lr { rd, rs1, .. } => Ok(self.load_reserved(rd, rs1, bus)),
             Instr::Sc { rd, rs1, rs2, .. } => self.store_conditional(rd, rs1, rs2, bus),
-            Instr::AmoSwap { rd, rs1, rs2, .. } => self.modify(
-                Operation::Second,
-                rd,
-                rs1,
-                rs2,
-                bus,
-            ),
-            Instr::AmoAdd { rd, rs1, rs2, .. } => self.modify(Operation::Sum, rd, rs1, rs2, bus),
-            Instr::AmoXor { rd, rs1, rs2, .. } => self.modify(Operation::Xor, rd, rs1, rs2, bus),
-            Instr::AmoAnd { rd, rs1, rs2, .. } => self.modify(Operation::And, rd, rs1, rs2, bus),
-            Instr::AmoOr { rd, rs1, rs2, .. } => self.modify(Operation::Or, rd, rs1, rs2, bus),
-            Instr::AmoMin { rd, rs1, rs2, .. } => self.modify(Operation::Least, rd, rs1, rs2, bus),
-            Instr::AmoMax { rd, rs1, rs2, .. } => self.modify(
-                Operation::Greatest,
-                rd,
-                rs1,
-                rs2,
-                bus,
-            ),
-            Instr::AmoMinu { rd, rs1, rs2, .. } => self.modify(
-                Operation::LeastUnsigned,
-                rd,
-                rs1,
-                rs2,
-                bus,
-            ),
-            Instr::AmoMaxu { rd, rs1, rs2, .. } => self.modify(
-                Operation::GreatestUnsigned,
-                rd,
-                rs1,
-                rs2,
-                bus,
-            ),
+            Instr::AmoSwap { rd, rs1, rs2, .. } => self.modify(AluOp::Swap, rd, rs1, rs2, bus),
+            Instr::AmoAdd { rd, rs1, rs2, .. } => self.modify(AluOp::Add, rd, rs1, rs2, bus),
+            Instr::AmoXor { rd, rs1, rs2, .. } => self.modify(AluOp::Xor, rd, rs1, rs2, bus),
+            Instr::AmoAnd { rd, rs1, rs2, .. } => self.modify(AluOp::And, rd, rs1, rs2, bus),
+            Instr::AmoOr { rd, rs1, rs2, .. } => self.modify(AluOp::Or, rd, rs1, rs2, bus),
+            Instr::AmoMin { rd, rs1, rs2, .. } => self.modify(AluOp::Min, rd, rs1, rs2, bus),
+            Instr::AmoMax { rd, rs1, rs2, .. } => self.modify(AluOp::Max, rd, rs1, rs2, bus),
+            Instr::AmoMinu { rd, rs1, rs2, .. } => self.modify(AluOp::Minu, rd, rs1, rs2, bus),
+            Instr::AmoMaxu { rd, rs1, rs2, .. } => self.modify(AluOp::Maxu, rd, rs1, rs2, bus),
         }
     }
 
@@ -275,7 +182,7 @@ impl Hart {
     fn put_above_pc(&mut self, rd: u8, imm: u32) -> Outcome
         requires register { rd < 32 }
         requires upper { imm < 2 ^ 20 }
-        ensures { done result self.new ≡ puts self.old rd (sum self.old.pc (imm * 2 ^ 12)) }
+        ensures { hart_result result self.new ≡ write_rd self.old rd (add self.old.pc (imm * 2 ^ 12)) }
     {
         let sum = self.pc().wrapping_add(imm << 12);
         self.put(rd, sum)
@@ -285,7 +192,7 @@ impl Hart {
     #[inline(always)]
     fn jump_by(&mut self, rd: u8, imm: i32) -> Outcome
         requires { rd < 32 }
-        ensures { done result self.new ≡ jumps self.old rd (plus self.old.pc imm) }
+        ensures { hart_result result self.new ≡ jump self.old rd (add_signed self.old.pc imm) }
     {
         let target = self.pc().wrapping_add_signed(imm);
         self.jump(rd, target)
@@ -296,7 +203,8 @@ impl Hart {
     fn jump_to(&mut self, rd: u8, rs1: u8, imm: i32) -> Outcome
         requires target { rd < 32 }
         requires source { rs1 < 32 }
-        ensures { done result self.new ≡ jumps self.old rd (even (plus (x_of self.old rs1) imm)) }
+        ensures { let target = clear_bit_0 (add_signed (x_of self.old rs1) imm) in
+            hart_result result self.new ≡ jump self.old rd target }
     {
         let target = self.at(rs1).wrapping_add_signed(imm) / 2 * 2;
         self.jump(rd, target)
@@ -307,8 +215,8 @@ impl Hart {
     fn branch(&mut self, comparison: Comparison, rs1: u8, rs2: u8, imm: i32) -> Outcome
         requires left { rs1 < 32 }
         requires right { rs2 < 32 }
-        ensures { done result self.new
-            ≡ branches self.old (compares comparison (x_of self.old rs1) (x_of self.old rs2)) (plus self.old.pc imm) }
+        ensures { let taken = holds comparison (x_of self.old rs1) (x_of self.old rs2) in
+            hart_result result self.new ≡ branch self.old taken (add_signed self.old.pc imm) }
     {
         if comparison.holds(self.at(rs1), self.at(rs2)) {
             let target = self.pc().wrapping_add_signed(imm);
@@ -320,12 +228,12 @@ impl Hart {
 
     /// An operation on two registers.
     #[inline(always)]
-    fn combine(&mut self, operation: Operation, rd: u8, rs1: u8, rs2: u8) -> Outcome
+    fn combine(&mut self, operation: AluOp, rd: u8, rs1: u8, rs2: u8) -> Outcome
         requires target { rd < 32 }
         requires left { rs1 < 32 }
         requires right { rs2 < 32 }
-        ensures { done result self.new
-            ≡ puts self.old rd (applied operation (x_of self.old rs1) (x_of self.old rs2)) }
+        ensures { hart_result result self.new
+            ≡ write_rd self.old rd (apply operation (x_of self.old rs1) (x_of self.old rs2)) }
     {
         let value = operation.apply(self.at(rs1), self.at(rs2));
         self.put(rd, value)
@@ -333,10 +241,11 @@ impl Hart {
 
     /// An operation on a register and an immediate.
     #[inline(always)]
-    fn combine_immediate(&mut self, operation: Operation, rd: u8, rs1: u8, imm: i32) -> Outcome
+    fn combine_immediate(&mut self, operation: AluOp, rd: u8, rs1: u8, imm: i32) -> Outcome
         requires target { rd < 32 }
         requires source { rs1 < 32 }
-        ensures { done result self.new ≡ puts self.old rd (applied operation (x_of self.old rs1) (word_of imm)) }
+        ensures { let value = apply operation (x_of self.old rs1) (word_of imm) in
+            hart_result result self.new ≡ write_rd self.old rd value }
     {
         let value = operation.apply(self.at(rs1), imm.cast_unsigned());
         self.put(rd, value)
@@ -344,10 +253,11 @@ impl Hart {
 
     /// A shift of a register by a number.
     #[inline(always)]
-    fn shift(&mut self, operation: Operation, rd: u8, rs1: u8, shamt: u8) -> Outcome
+    fn shift(&mut self, operation: AluOp, rd: u8, rs1: u8, shamt: u8) -> Outcome
         requires target { rd < 32 }
         requires source { rs1 < 32 }
-        ensures { done result self.new ≡ puts self.old rd (applied operation (x_of self.old rs1) shamt) }
+        ensures { let value = apply operation (x_of self.old rs1) shamt in
+            hart_result result self.new ≡ write_rd self.old rd value }
     {
         let value = operation.apply(self.at(rs1), u32::from(shamt));
         self.put(rd, value)

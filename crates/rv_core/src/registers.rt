@@ -1,14 +1,12 @@
 //! The registers of one hart.
 
 ghost use Rattle.std.specs.Prelude.{◌≡◌, ◌%◌, ◌<◌, ◌==◌, ◌&&◌, false, replicate, slice_index};
-ghost use Rattle.rv_core.specs.Registers.{Regs, x_of, writes, at_pc, reserving, unreserved};
-ghost use Rattle.rv_core.specs.Reach.{done, quiet, puts, jumps};
-ghost use Rattle.rv_core.specs.Fields.{IsHeld, fields_of, state_of};
+ghost use Rattle.rv_core.specs.Registers.{Regs, x_of, write_register, with_pc, reserve, unreserve};
+ghost use Rattle.rv_core.specs.Reach.{hart_result, advance, write_rd, jump};
+ghost use Rattle.rv_core.specs.Fields.{IsLegal, fields_of, state_of};
 
+use rv_traps::cause::INSTRUCTION_ADDRESS_MISALIGNED;
 use std::marker::Model;
-
-/// The cause of a jump to an address that is no multiple of 4.
-const MISALIGNED_JUMP: u32 = 0;
 
 /// How an instruction ended: it is over, or it traps with a cause and a value (RISC-V privileged,
 /// mcause and mtval). A trap has changed no register and no memory.
@@ -18,7 +16,8 @@ pub enum Outcome {
     Trap { cause: u32, value: u32 },
 }
 
-/// The values of the machine's state that the hart holds. `x` is x1 to x31; `address` is the one that
+/// The values of the machine's state that the hart holds. `x` is x1 to x31; `address` is the one
+/// that
 /// was reserved last.
 #[derive(Clone, Copy, Debug, PartialEq, Eq)]
 pub struct HartFields {
@@ -30,7 +29,8 @@ pub struct HartFields {
 
 /// The registers of one hart: the program counter, x0 to x31, and the reservation of LR and SC.
 ///
-/// Contracts see it as a record `Regs`. At every moment x0 is 0 and the program counter is a multiple
+/// Contracts see it as a record `Regs`. At every moment x0 is 0 and the program counter is a
+/// multiple
 /// of 4.
 #[derive(Drop)]
 pub struct Hart {
@@ -47,7 +47,8 @@ impl Model for Hart {
 
     ghost view = { λ h. record { pc = h.pc; x = h.x; reserved = h.reserved; address = h.address } };
 
-    ghost invariant = { λ h. IsHart (record { pc = h.pc; x = h.x; reserved = h.reserved; address = h.address }) };
+    ghost invariant = { λ h.
+        IsHart (record { pc = h.pc; x = h.x; reserved = h.reserved; address = h.address }) };
 }
 
 impl Hart {
@@ -94,7 +95,7 @@ impl Hart {
     /// Forgets the reservation. The address that was reserved stays.
     #[inline(always)]
     pub fn unreserve(&mut self)
-        ensures { self.new ≡ unreserved self.old }
+        ensures { self.new ≡ unreserve self.old }
     {
         self.reserved = false;
     }
@@ -102,7 +103,7 @@ impl Hart {
     /// The values that the hart holds. They make the same hart again.
     pub fn fields(&self) -> HartFields
         ensures value { result ≡ fields_of self.now }
-        ensures held { IsHeld result }
+        ensures legal { IsLegal result }
         ensures back { state_of result ≡ self.now }
     {
         let mut x = [0; 31];
@@ -117,7 +118,7 @@ impl Hart {
 
     /// Sets the values that the hart holds. The program counter is a multiple of 4.
     pub fn set_fields(&mut self, f: &HartFields)
-        requires { IsHeld f.now }
+        requires { IsLegal f.now }
         ensures { self.new ≡ state_of f.now }
     {
         let mut x = [0; 32];
@@ -150,7 +151,7 @@ impl Hart {
     /// Reserves `addr`, in place of any other.
     #[inline(always)]
     pub(crate) fn reserve(&mut self, addr: u32)
-        ensures { self.new ≡ reserving self.old addr }
+        ensures { self.new ≡ reserve self.old addr }
     {
         self.reserved = true;
         self.address = addr;
@@ -160,52 +161,54 @@ impl Hart {
     #[inline(always)]
     fn write(&mut self, rd: u8, value: u32)
         requires { rd < 32 }
-        ensures { self.new ≡ writes self.old rd value }
+        ensures { self.new ≡ write_register self.old rd value }
     {
         if rd != 0 {
             self.x[rd as usize] = value;
         }
     }
 
-    /// Writes `value` to the register `rd`, but nothing to x0, and goes on behind the instruction.
+    /// Writes `value` to the register `rd`, but nothing to x0, and goes on with the next
+    /// instruction.
     #[inline(always)]
     pub(crate) fn put(&mut self, rd: u8, value: u32) -> Outcome
         requires { rd < 32 }
-        ensures { done result self.new ≡ puts self.old rd value }
+        ensures { hart_result result self.new ≡ write_rd self.old rd value }
     {
         self.write(rd, value);
         self.go_on()
     }
 
-    /// Goes on behind the instruction.
+    /// Advances the program counter to the next instruction.
     #[inline(always)]
     pub(crate) fn go_on(&mut self) -> Outcome
-        ensures { done result self.new ≡ quiet self.old }
+        ensures { hart_result result self.new ≡ advance self.old }
     {
         self.pc = self.pc.wrapping_add(4);
         Outcome::Next
     }
 
-    /// Goes on at `pc`, a multiple of 4.
+    /// Continues at `pc`, a multiple of 4.
     #[inline(always)]
     pub(crate) fn go_to(&mut self, pc: u32) -> Outcome
         requires { pc % 4 ≡ 0 }
-        ensures { done result self.new ≡ done Outcome.Next (at_pc self.old pc) }
+        ensures { hart_result result self.new ≡ hart_result Outcome.Next (with_pc self.old pc) }
     {
         self.pc = pc;
         Outcome::Next
     }
 
-    /// Jumps to `target`, and leaves the address behind the jump in `rd`. A target that is no multiple
+    /// Jumps to `target`, and leaves the address of the next instruction in `rd`. A target that is
+    /// no multiple
     /// of 4 traps.
     #[inline(always)]
     pub(crate) fn jump(&mut self, rd: u8, target: u32) -> Outcome
         requires { rd < 32 }
-        ensures { done result self.new ≡ jumps self.old rd target }
+        ensures { hart_result result self.new ≡ jump self.old rd target }
     {
         if target % 4 != 0 {
             return Outcome::Trap {
-                cause: MISALIGNED_JUMP,
+                cause: INSTRUCTION_ADDRESS_MISALIGNED,
                 value: target,
             };
         }

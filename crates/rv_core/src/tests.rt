@@ -1,4 +1,5 @@
-//! Every row at its edges over a bus of one word, reservations, every CSR and an interrupt, with values
+//! Every row at its edges over a bus of one word, reservations, every CSR and an interrupt, with
+//! values
 //! from the standard's tables or worked out by hand.
 
 ghost use Rattle.std.specs.Prelude.{◌≡◌, ◌==◌, Some, None, if◌then◌else◌};
@@ -66,13 +67,13 @@ impl Bus for OneWord {
 
 /// A word, x1 and x2 before it, and x3, the program counter and the memory behind it.
 const ROWS: [(u32, u32, u32, u32, u32, u32); 69] = [
-    // lui x3, 0xfffff
+    // lui x3, 0xFFFFF
     (0xFFFF_F1B7, 0, 0, 0xFFFF_F000, 0x8000_0044, 0x1234_80F0),
     // auipc x3, 0x80000
     (0x8000_0197, 0, 0, 0x0000_0040, 0x8000_0044, 0x1234_80F0),
     // jal x3, -64
     (0xFC1F_F1EF, 0, 0, 0x8000_0044, 0x8000_0000, 0x1234_80F0),
-    // jal x0, 0xffffc
+    // jal x0, 0xFFFFC
     (0x7FDF_F06F, 0, 0, 0, 0x8010_003C, 0x1234_80F0),
     // jalr x3, x1, -3
     (
@@ -184,7 +185,7 @@ const ROWS: [(u32, u32, u32, u32, u32, u32); 69] = [
         0x8000_0044,
         0x1234_80F0,
     ),
-    // ori x3, x1, 0x70f
+    // ori x3, x1, 0x70F
     (
         0x70F0_E193,
         0xF000_0000,

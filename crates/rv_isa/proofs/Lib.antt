@@ -1,7 +1,7 @@
-pub mod Back
-pub mod Decoding
-pub mod Masks
-pub mod Rows
-pub mod Said
-pub mod Signs
-pub mod Within
+pub mod OneWordLemmas
+pub mod DecodeLemmas
+pub mod MaskLemmas
+pub mod RowLemmas
+pub mod EncodeLemmas
+pub mod SignLemmas
+pub mod RangeLemmas

@@ -1,261 +1,272 @@
-//! Writing an instruction as its word: one function a format, with what its rows fix.
+//! Writing an instruction as its word: a function for each format, which puts the fields beside
+//! what the row fixes (RISC-V unprivileged, RV32I, 2.2 and 2.3).
 
 ghost use Rattle.std.specs.Prelude.{◌≡◌, ℕ, ◌+◌, ◌-◌, ◌%◌, ◌^◌, ◌<◌, ◌≤◌, Some};
 ghost use Rattle.rv_isa.specs.Ranges.{IsRegister, IsSigned, IsOffset, IsWithin};
-ghost use Rattle.rv_isa.specs.Table.{decoded, IsSpelled};
-ghost use Rattle.rv_isa.specs.Words.{upper_word, jump_word, immediate_word, branch_word, store_word, register_word, fence_word, control_word, atomic_word, reserving_word, word_of, unsigned};
+ghost use Rattle.rv_isa.specs.Table.{decode, IsEncodable};
+ghost use Rattle.rv_isa.specs.Words.{u_type_word, j_type_word, i_type_word, b_type_word, s_type_word, r_type_word, fence_word, csr_word, amo_word, lr_word, word_of, unsigned};
 
 use crate::instr::Instr;
 
-/// The one word that says an instruction (RISC-V unprivileged, RV32I, 2.2 and 2.3). It asks that some
-/// word does, which holds of what `decode` gave and where each field is within its range.
+/// The one word that decodes to an instruction (RISC-V unprivileged, RV32I, 2.2 and 2.3). It asks
+/// that there is one, which holds of what `decode` gave and where each field is within its range.
 pub fn encode(instr: &Instr) -> u32
-    requires { IsSpelled instr.now }
-    ensures says { decoded result ≡ Some instr.now }
+    requires { IsEncodable instr.now }
+    ensures decodes { decode result ≡ Some instr.now }
     ensures word { result ≡ word_of instr.now }
-    ensures only { (w : ℕ) → w < 2 ^ 32 → decoded w ≡ Some instr.now → w ≡ result }
+    ensures only { (w : ℕ) → w < 2 ^ 32 → decode w ≡ Some instr.now → w ≡ result }
 {
     word_of(instr)
 }
 
-// What the row fixes and the fields in their places.
+/// The word of an instruction: what its row fixes and the fields in their places.
 fn word_of(instr: &Instr) -> u32
     requires { IsWithin instr.now }
     ensures { result ≡ word_of instr.now }
 {
     match *instr {
-        Instr::Lui { rd, imm } => upper(0x37, rd, imm),
-        Instr::Auipc { rd, imm } => upper(0x17, rd, imm),
-        Instr::Jal { rd, imm } => jump(0x6f, rd, imm),
-        Instr::Jalr { rd, rs1, imm } => immediate(0x67, rd, rs1, imm),
-        Instr::Beq { rs1, rs2, imm } => branch(0x63, rs1, rs2, imm),
-        Instr::Bne { rs1, rs2, imm } => branch(0x1063, rs1, rs2, imm),
-        Instr::Blt { rs1, rs2, imm } => branch(0x4063, rs1, rs2, imm),
-        Instr::Bge { rs1, rs2, imm } => branch(0x5063, rs1, rs2, imm),
-        Instr::Bltu { rs1, rs2, imm } => branch(0x6063, rs1, rs2, imm),
-        Instr::Bgeu { rs1, rs2, imm } => branch(0x7063, rs1, rs2, imm),
-        Instr::Lb { rd, rs1, imm } => immediate(0x03, rd, rs1, imm),
-        Instr::Lh { rd, rs1, imm } => immediate(0x1003, rd, rs1, imm),
-        Instr::Lw { rd, rs1, imm } => immediate(0x2003, rd, rs1, imm),
-        Instr::Lbu { rd, rs1, imm } => immediate(0x4003, rd, rs1, imm),
-        Instr::Lhu { rd, rs1, imm } => immediate(0x5003, rd, rs1, imm),
-        Instr::Sb { rs1, rs2, imm } => store(0x23, rs1, rs2, imm),
-        Instr::Sh { rs1, rs2, imm } => store(0x1023, rs1, rs2, imm),
-        Instr::Sw { rs1, rs2, imm } => store(0x2023, rs1, rs2, imm),
-        Instr::Addi { rd, rs1, imm } => immediate(0x13, rd, rs1, imm),
-        Instr::Slti { rd, rs1, imm } => immediate(0x2013, rd, rs1, imm),
-        Instr::Sltiu { rd, rs1, imm } => immediate(0x3013, rd, rs1, imm),
-        Instr::Xori { rd, rs1, imm } => immediate(0x4013, rd, rs1, imm),
-        Instr::Ori { rd, rs1, imm } => immediate(0x6013, rd, rs1, imm),
-        Instr::Andi { rd, rs1, imm } => immediate(0x7013, rd, rs1, imm),
-        Instr::Slli { rd, rs1, shamt } => register(0x1013, rd, rs1, shamt),
-        Instr::Srli { rd, rs1, shamt } => register(0x5013, rd, rs1, shamt),
-        Instr::Srai { rd, rs1, shamt } => register(0x4000_5013, rd, rs1, shamt),
-        Instr::Add { rd, rs1, rs2 } => register(0x33, rd, rs1, rs2),
-        Instr::Sll { rd, rs1, rs2 } => register(0x1033, rd, rs1, rs2),
-        Instr::Slt { rd, rs1, rs2 } => register(0x2033, rd, rs1, rs2),
-        Instr::Sltu { rd, rs1, rs2 } => register(0x3033, rd, rs1, rs2),
-        Instr::Xor { rd, rs1, rs2 } => register(0x4033, rd, rs1, rs2),
-        Instr::Srl { rd, rs1, rs2 } => register(0x5033, rd, rs1, rs2),
-        Instr::Or { rd, rs1, rs2 } => register(0x6033, rd, rs1, rs2),
-        Instr::And { rd, rs1, rs2 } => register(0x7033, rd, rs1, rs2),
-        Instr::Sub { rd, rs1, rs2 } => register(0x4000_0033, rd, rs1, rs2),
-        Instr::Sra { rd, rs1, rs2 } => register(0x4000_5033, rd, rs1, rs2),
-        Instr::Mul { rd, rs1, rs2 } => register(0x0200_0033, rd, rs1, rs2),
-        Instr::Mulh { rd, rs1, rs2 } => register(0x0200_1033, rd, rs1, rs2),
-        Instr::Mulhsu { rd, rs1, rs2 } => register(0x0200_2033, rd, rs1, rs2),
-        Instr::Mulhu { rd, rs1, rs2 } => register(0x0200_3033, rd, rs1, rs2),
-        Instr::Div { rd, rs1, rs2 } => register(0x0200_4033, rd, rs1, rs2),
-        Instr::Divu { rd, rs1, rs2 } => register(0x0200_5033, rd, rs1, rs2),
-        Instr::Rem { rd, rs1, rs2 } => register(0x0200_6033, rd, rs1, rs2),
-        Instr::Remu { rd, rs1, rs2 } => register(0x0200_7033, rd, rs1, rs2),
-        Instr::Fence { rest } => fence(0x0f, rest),
-        Instr::FenceI { rest } => fence(0x100f, rest),
-        Instr::Csrrw { rd, rs1, csr } => control(0x1073, rd, rs1, csr),
-        Instr::Csrrs { rd, rs1, csr } => control(0x2073, rd, rs1, csr),
-        Instr::Csrrc { rd, rs1, csr } => control(0x3073, rd, rs1, csr),
-        Instr::Csrrwi { rd, imm, csr } => control(0x5073, rd, imm, csr),
-        Instr::Csrrsi { rd, imm, csr } => control(0x6073, rd, imm, csr),
-        Instr::Csrrci { rd, imm, csr } => control(0x7073, rd, imm, csr),
+        Instr::Lui { rd, imm } => u_type(0x37, rd, imm),
+        Instr::Auipc { rd, imm } => u_type(0x17, rd, imm),
+        Instr::Jal { rd, imm } => j_type(0x6F, rd, imm),
+        Instr::Jalr { rd, rs1, imm } => i_type(0x67, rd, rs1, imm),
+        Instr::Beq { rs1, rs2, imm } => b_type(0x63, rs1, rs2, imm),
+        Instr::Bne { rs1, rs2, imm } => b_type(0x1063, rs1, rs2, imm),
+        Instr::Blt { rs1, rs2, imm } => b_type(0x4063, rs1, rs2, imm),
+        Instr::Bge { rs1, rs2, imm } => b_type(0x5063, rs1, rs2, imm),
+        Instr::Bltu { rs1, rs2, imm } => b_type(0x6063, rs1, rs2, imm),
+        Instr::Bgeu { rs1, rs2, imm } => b_type(0x7063, rs1, rs2, imm),
+        Instr::Lb { rd, rs1, imm } => i_type(0x03, rd, rs1, imm),
+        Instr::Lh { rd, rs1, imm } => i_type(0x1003, rd, rs1, imm),
+        Instr::Lw { rd, rs1, imm } => i_type(0x2003, rd, rs1, imm),
+        Instr::Lbu { rd, rs1, imm } => i_type(0x4003, rd, rs1, imm),
+        Instr::Lhu { rd, rs1, imm } => i_type(0x5003, rd, rs1, imm),
+        Instr::Sb { rs1, rs2, imm } => s_type(0x23, rs1, rs2, imm),
+        Instr::Sh { rs1, rs2, imm } => s_type(0x1023, rs1, rs2, imm),
+        Instr::Sw { rs1, rs2, imm } => s_type(0x2023, rs1, rs2, imm),
+        Instr::Addi { rd, rs1, imm } => i_type(0x13, rd, rs1, imm),
+        Instr::Slti { rd, rs1, imm } => i_type(0x2013, rd, rs1, imm),
+        Instr::Sltiu { rd, rs1, imm } => i_type(0x3013, rd, rs1, imm),
+        Instr::Xori { rd, rs1, imm } => i_type(0x4013, rd, rs1, imm),
+        Instr::Ori { rd, rs1, imm } => i_type(0x6013, rd, rs1, imm),
+        Instr::Andi { rd, rs1, imm } => i_type(0x7013, rd, rs1, imm),
+        Instr::Slli { rd, rs1, shamt } => r_type(0x1013, rd, rs1, shamt),
+        Instr::Srli { rd, rs1, shamt } => r_type(0x5013, rd, rs1, shamt),
+        Instr::Srai { rd, rs1, shamt } => r_type(0x4000_5013, rd, rs1, shamt),
+        Instr::Add { rd, rs1, rs2 } => r_type(0x33, rd, rs1, rs2),
+        Instr::Sll { rd, rs1, rs2 } => r_type(0x1033, rd, rs1, rs2),
+        Instr::Slt { rd, rs1, rs2 } => r_type(0x2033, rd, rs1, rs2),
+        Instr::Sltu { rd, rs1, rs2 } => r_type(0x3033, rd, rs1, rs2),
+        Instr::Xor { rd, rs1, rs2 } => r_type(0x4033, rd, rs1, rs2),
+        Instr::Srl { rd, rs1, rs2 } => r_type(0x5033, rd, rs1, rs2),
+        Instr::Or { rd, rs1, rs2 } => r_type(0x6033, rd, rs1, rs2),
+        Instr::And { rd, rs1, rs2 } => r_type(0x7033, rd, rs1, rs2),
+        Instr::Sub { rd, rs1, rs2 } => r_type(0x4000_0033, rd, rs1, rs2),
+        Instr::Sra { rd, rs1, rs2 } => r_type(0x4000_5033, rd, rs1, rs2),
+        Instr::Mul { rd, rs1, rs2 } => r_type(0x0200_0033, rd, rs1, rs2),
+        Instr::Mulh { rd, rs1, rs2 } => r_type(0x0200_1033, rd, rs1, rs2),
+        Instr::Mulhsu { rd, rs1, rs2 } => r_type(0x0200_2033, rd, rs1, rs2),
+        Instr::Mulhu { rd, rs1, rs2 } => r_type(0x0200_3033, rd, rs1, rs2),
+        Instr::Div { rd, rs1, rs2 } => r_type(0x0200_4033, rd, rs1, rs2),
+        Instr::Divu { rd, rs1, rs2 } => r_type(0x0200_5033, rd, rs1, rs2),
+        Instr::Rem { rd, rs1, rs2 } => r_type(0x0200_6033, rd, rs1, rs2),
+        Instr::Remu { rd, rs1, rs2 } => r_type(0x0200_7033, rd, rs1, rs2),
+        Instr::Fence { rest } => fence_type(0x0F, rest),
+        Instr::FenceI { rest } => fence_type(0x100F, rest),
+        Instr::Csrrw { rd, rs1, csr } => csr_type(0x1073, rd, rs1, csr),
+        Instr::Csrrs { rd, rs1, csr } => csr_type(0x2073, rd, rs1, csr),
+        Instr::Csrrc { rd, rs1, csr } => csr_type(0x3073, rd, rs1, csr),
+        Instr::Csrrwi { rd, imm, csr } => csr_type(0x5073, rd, imm, csr),
+        Instr::Csrrsi { rd, imm, csr } => csr_type(0x6073, rd, imm, csr),
+        Instr::Csrrci { rd, imm, csr } => csr_type(0x7073, rd, imm, csr),
         Instr::Ecall => 0x73,
         Instr::Ebreak => 0x0010_0073,
         Instr::Mret => 0x3020_0073,
         Instr::Wfi => 0x1050_0073,
-        Instr::Lr { rd, rs1, aq, rl } => reserving(0x1000_202f, rd, rs1, aq, rl),
+        Instr::Lr { rd, rs1, aq, rl } => lr_type(0x1000_202F, rd, rs1, aq, rl),
         Instr::Sc {
             rd,
             rs1,
             rs2,
             aq,
             rl,
-        } => atomic(0x1800_202f, rd, rs1, rs2, aq, rl),
+        } => amo_type(0x1800_202F, rd, rs1, rs2, aq, rl),
         Instr::AmoSwap {
             rd,
             rs1,
             rs2,
             aq,
             rl,
-        } => atomic(0x0800_202f, rd, rs1, rs2, aq, rl),
+        } => amo_type(0x0800_202F, rd, rs1, rs2, aq, rl),
         Instr::AmoAdd {
             rd,
             rs1,
             rs2,
             aq,
             rl,
-        } => atomic(0x202f, rd, rs1, rs2, aq, rl),
+        } => amo_type(0x202F, rd, rs1, rs2, aq, rl),
         Instr::AmoXor {
             rd,
             rs1,
             rs2,
             aq,
             rl,
-        } => atomic(0x2000_202f, rd, rs1, rs2, aq, rl),
+        } => amo_type(0x2000_202F, rd, rs1, rs2, aq, rl),
         Instr::AmoAnd {
             rd,
             rs1,
             rs2,
             aq,
             rl,
-        } => atomic(0x6000_202f, rd, rs1, rs2, aq, rl),
+        } => amo_type(0x6000_202F, rd, rs1, rs2, aq, rl),
         Instr::AmoOr {
             rd,
             rs1,
             rs2,
             aq,
             rl,
-        } => atomic(0x4000_202f, rd, rs1, rs2, aq, rl),
+        } => amo_type(0x4000_202F, rd, rs1, rs2, aq, rl),
         Instr::AmoMin {
             rd,
             rs1,
             rs2,
             aq,
             rl,
-        } => atomic(0x8000_202f, rd, rs1, rs2, aq, rl),
+        } => amo_type(0x8000_202F, rd, rs1, rs2, aq, rl),
         Instr::AmoMax {
             rd,
             rs1,
             rs2,
             aq,
             rl,
-        } => atomic(0xa000_202f, rd, rs1, rs2, aq, rl),
+        } => amo_type(0xA000_202F, rd, rs1, rs2, aq, rl),
         Instr::AmoMinu {
             rd,
             rs1,
             rs2,
             aq,
             rl,
-        } => atomic(0xc000_202f, rd, rs1, rs2, aq, rl),
+        } => amo_type(0xC000_202F, rd, rs1, rs2, aq, rl),
         Instr::AmoMaxu {
             rd,
             rs1,
             rs2,
             aq,
             rl,
-        } => atomic(0xe000_202f, rd, rs1, rs2, aq, rl),
+        } => amo_type(0xE000_202F, rd, rs1, rs2, aq, rl),
     }
 }
 
-fn upper(value: u32, rd: u8, imm: u32) -> u32
-    requires fixed { value ≤ 0x7f }
+/// LUI and AUIPC: `imm` is the upper 20 bits.
+fn u_type(value: u32, rd: u8, imm: u32) -> u32
+    requires fixed { value ≤ 0x7F }
     requires rd { IsRegister rd }
     requires imm { imm < 2 ^ 20 }
-    ensures { result ≡ upper_word value rd imm }
+    ensures { result ≡ u_type_word value rd imm }
 {
     value + (u32::from(rd) << 7) + (imm << 12)
 }
 
-fn jump(value: u32, rd: u8, imm: i32) -> u32
-    requires fixed { value ≤ 0x7f }
+/// JAL.
+fn j_type(value: u32, rd: u8, imm: i32) -> u32
+    requires fixed { value ≤ 0x7F }
     requires rd { IsRegister rd }
     requires imm { IsOffset 21 imm }
-    ensures { result ≡ jump_word value rd imm }
+    ensures { result ≡ j_type_word value rd imm }
 {
-    let number = imm.cast_unsigned() & 0x1f_ffff;
+    let number = imm.cast_unsigned() & 0x1F_FFFF;
     let high = (number >> 20 << 31) + ((number >> 1 & 1023) << 21);
     let low = ((number >> 11 & 1) << 20) + ((number >> 12 & 255) << 12);
     value + (u32::from(rd) << 7) + high + low
 }
 
-fn immediate(value: u32, rd: u8, rs1: u8, imm: i32) -> u32
-    requires fixed { value ≤ 0x707f }
+/// JALR, the loads and arithmetic with an immediate.
+fn i_type(value: u32, rd: u8, rs1: u8, imm: i32) -> u32
+    requires fixed { value ≤ 0x707F }
     requires rd { IsRegister rd }
     requires rs1 { IsRegister rs1 }
     requires imm { IsSigned 12 imm }
-    ensures { result ≡ immediate_word value rd rs1 imm }
+    ensures { result ≡ i_type_word value rd rs1 imm }
 {
-    let number = imm.cast_unsigned() & 0xfff;
+    let number = imm.cast_unsigned() & 0xFFF;
     value + (u32::from(rd) << 7) + (u32::from(rs1) << 15) + (number << 20)
 }
 
-fn branch(value: u32, rs1: u8, rs2: u8, imm: i32) -> u32
-    requires fixed { value ≤ 0x707f }
+/// The branches.
+fn b_type(value: u32, rs1: u8, rs2: u8, imm: i32) -> u32
+    requires fixed { value ≤ 0x707F }
     requires rs1 { IsRegister rs1 }
     requires rs2 { IsRegister rs2 }
     requires imm { IsOffset 13 imm }
-    ensures { result ≡ branch_word value rs1 rs2 imm }
+    ensures { result ≡ b_type_word value rs1 rs2 imm }
 {
-    let number = imm.cast_unsigned() & 0x1fff;
+    let number = imm.cast_unsigned() & 0x1FFF;
     let high = (number >> 12 << 31) + ((number >> 5 & 63) << 25);
     let low = ((number >> 1 & 15) << 8) + ((number >> 11 & 1) << 7);
     value + (u32::from(rs1) << 15) + (u32::from(rs2) << 20) + high + low
 }
 
-fn store(value: u32, rs1: u8, rs2: u8, imm: i32) -> u32
-    requires fixed { value ≤ 0x707f }
+/// The stores.
+fn s_type(value: u32, rs1: u8, rs2: u8, imm: i32) -> u32
+    requires fixed { value ≤ 0x707F }
     requires rs1 { IsRegister rs1 }
     requires rs2 { IsRegister rs2 }
     requires imm { IsSigned 12 imm }
-    ensures { result ≡ store_word value rs1 rs2 imm }
+    ensures { result ≡ s_type_word value rs1 rs2 imm }
 {
-    let number = imm.cast_unsigned() & 0xfff;
+    let number = imm.cast_unsigned() & 0xFFF;
     let places = (number >> 5 << 25) + ((number & 31) << 7);
     value + (u32::from(rs1) << 15) + (u32::from(rs2) << 20) + places
 }
 
-fn register(value: u32, rd: u8, rs1: u8, rs2: u8) -> u32
-    requires fixed { value ≤ 0xfe00_707f }
+/// Arithmetic of registers, and the shifts by a number, which stands in the place of rs2.
+fn r_type(value: u32, rd: u8, rs1: u8, rs2: u8) -> u32
+    requires fixed { value ≤ 0xFE00_707F }
     requires rd { IsRegister rd }
     requires rs1 { IsRegister rs1 }
     requires rs2 { IsRegister rs2 }
-    ensures { result ≡ register_word value rd rs1 rs2 }
+    ensures { result ≡ r_type_word value rd rs1 rs2 }
 {
     value + (u32::from(rd) << 7) + (u32::from(rs1) << 15) + (u32::from(rs2) << 20)
 }
 
-fn fence(value: u32, rest: u32) -> u32
-    requires fixed { value ≤ 0x707f }
+/// FENCE and FENCE.I: `rest` is bits 31 to 15 above bits 11 to 7.
+fn fence_type(value: u32, rest: u32) -> u32
+    requires fixed { value ≤ 0x707F }
     requires rest { rest < 2 ^ 22 }
     ensures { result ≡ fence_word value rest }
 {
     value + (rest >> 5 << 15) + ((rest & 31) << 7)
 }
 
-fn control(value: u32, rd: u8, rs1: u8, csr: u32) -> u32
-    requires fixed { value ≤ 0x707f }
+/// The CSR instructions; a number as operand stands in the place of rs1.
+fn csr_type(value: u32, rd: u8, rs1: u8, csr: u32) -> u32
+    requires fixed { value ≤ 0x707F }
     requires rd { IsRegister rd }
     requires rs1 { IsRegister rs1 }
     requires csr { csr < 2 ^ 12 }
-    ensures { result ≡ control_word value rd rs1 csr }
+    ensures { result ≡ csr_word value rd rs1 csr }
 {
     value + (u32::from(rd) << 7) + (u32::from(rs1) << 15) + (csr << 20)
 }
 
-fn atomic(value: u32, rd: u8, rs1: u8, rs2: u8, aq: bool, rl: bool) -> u32
-    requires fixed { value ≤ 0xf800_707f }
+/// SC and the atomic memory operations.
+fn amo_type(value: u32, rd: u8, rs1: u8, rs2: u8, aq: bool, rl: bool) -> u32
+    requires fixed { value ≤ 0xF800_707F }
     requires rd { IsRegister rd }
     requires rs1 { IsRegister rs1 }
     requires rs2 { IsRegister rs2 }
-    ensures { result ≡ atomic_word value rd rs1 rs2 aq rl }
+    ensures { result ≡ amo_word value rd rs1 rs2 aq rl }
 {
     let ordering = (u32::from(aq) << 26) + (u32::from(rl) << 25);
     value + (u32::from(rd) << 7) + (u32::from(rs1) << 15) + (u32::from(rs2) << 20) + ordering
 }
 
-fn reserving(value: u32, rd: u8, rs1: u8, aq: bool, rl: bool) -> u32
-    requires fixed { value ≤ 0xf9f0_707f }
+/// LR.
+fn lr_type(value: u32, rd: u8, rs1: u8, aq: bool, rl: bool) -> u32
+    requires fixed { value ≤ 0xF9F0_707F }
     requires rd { IsRegister rd }
     requires rs1 { IsRegister rs1 }
-    ensures { result ≡ reserving_word value rd rs1 aq rl }
+    ensures { result ≡ lr_word value rd rs1 aq rl }
 {
     let ordering = (u32::from(aq) << 26) + (u32::from(rl) << 25);
     value + (u32::from(rd) << 7) + (u32::from(rs1) << 15) + ordering

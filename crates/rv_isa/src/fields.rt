@@ -3,7 +3,7 @@
 ghost use Rattle.std.specs.Prelude.{◌≡◌};
 ghost use Rattle.rv_isa.specs.Fields.{rd, rs1, rs2, imm_i, imm_s, imm_b, imm_u, imm_j, csr, aq, rl, rest};
 
-// The destination register: bits 11 to 7.
+/// The destination register: bits 11 to 7.
 #[inline(always)]
 pub(crate) fn rd_of(word: u32) -> u8
     ensures { result ≡ rd word }
@@ -11,7 +11,7 @@ pub(crate) fn rd_of(word: u32) -> u8
     (word >> 7 & 31) as u8
 }
 
-// The first source register: bits 19 to 15.
+/// The first source register: bits 19 to 15.
 #[inline(always)]
 pub(crate) fn rs1_of(word: u32) -> u8
     ensures { result ≡ rs1 word }
@@ -19,7 +19,7 @@ pub(crate) fn rs1_of(word: u32) -> u8
     (word >> 15 & 31) as u8
 }
 
-// The second source register, and how far a shift goes: bits 24 to 20.
+/// The second source register, and how far a shift goes: bits 24 to 20.
 #[inline(always)]
 pub(crate) fn rs2_of(word: u32) -> u8
     ensures { result ≡ rs2 word }
@@ -27,7 +27,7 @@ pub(crate) fn rs2_of(word: u32) -> u8
     (word >> 20 & 31) as u8
 }
 
-// The number of a CSR: bits 31 to 20.
+/// The number of a CSR: bits 31 to 20.
 #[inline(always)]
 pub(crate) fn csr_of(word: u32) -> u32
     ensures { result ≡ csr word }
@@ -35,7 +35,7 @@ pub(crate) fn csr_of(word: u32) -> u32
     word >> 20
 }
 
-// Acquire: bit 26.
+/// Acquire: bit 26.
 #[inline(always)]
 pub(crate) fn aq_of(word: u32) -> bool
     ensures { result ≡ aq word }
@@ -43,7 +43,7 @@ pub(crate) fn aq_of(word: u32) -> bool
     word >> 26 & 1 == 1
 }
 
-// Release: bit 25.
+/// Release: bit 25.
 #[inline(always)]
 pub(crate) fn rl_of(word: u32) -> bool
     ensures { result ≡ rl word }
@@ -51,7 +51,7 @@ pub(crate) fn rl_of(word: u32) -> bool
     word >> 25 & 1 == 1
 }
 
-// All of a fence but its opcode and funct3: bits 31 to 15 above bits 11 to 7.
+/// All of a fence but its opcode and funct3: bits 31 to 15 above bits 11 to 7.
 #[inline(always)]
 pub(crate) fn rest_of(word: u32) -> u32
     ensures { result ≡ rest word }
@@ -59,7 +59,7 @@ pub(crate) fn rest_of(word: u32) -> u32
     (word >> 15 << 5) + (word >> 7 & 31)
 }
 
-// The I-immediate.
+/// The I-immediate.
 #[inline(always)]
 pub(crate) fn imm_i(word: u32) -> i32
     ensures { result ≡ imm_i word }
@@ -67,7 +67,7 @@ pub(crate) fn imm_i(word: u32) -> i32
     word.cast_signed() >> 20
 }
 
-// The S-immediate.
+/// The S-immediate.
 #[inline(always)]
 pub(crate) fn imm_s(word: u32) -> i32
     ensures { result ≡ imm_s word }
@@ -76,7 +76,7 @@ pub(crate) fn imm_s(word: u32) -> i32
     if number < 2048 { number } else { number - 4096 }
 }
 
-// The B-immediate.
+/// The B-immediate.
 #[inline(always)]
 pub(crate) fn imm_b(word: u32) -> i32
     ensures { result ≡ imm_b word }
@@ -86,7 +86,7 @@ pub(crate) fn imm_b(word: u32) -> i32
     if number < 4096 { number } else { number - 8192 }
 }
 
-// The upper 20 bits of the U-immediate.
+/// The upper 20 bits of the U-immediate.
 #[inline(always)]
 pub(crate) fn imm_u(word: u32) -> u32
     ensures { result ≡ imm_u word }
@@ -94,7 +94,7 @@ pub(crate) fn imm_u(word: u32) -> u32
     word >> 12
 }
 
-// The J-immediate.
+/// The J-immediate.
 #[inline(always)]
 pub(crate) fn imm_j(word: u32) -> i32
     ensures { result ≡ imm_j word }

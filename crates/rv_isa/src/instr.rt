@@ -1,11 +1,13 @@
-//! The instructions of RV32IMA with Zicsr and Zifencei, and of machine mode MRET and WFI, as values.
+//! The instructions of RV32IMA with Zicsr and Zifencei, and of machine mode MRET and WFI, as
+//! values.
 
 /// One instruction, one variant for each row of the instruction table.
 ///
-/// `rd`, `rs1` and `rs2` are register numbers below 32. `imm` is the immediate as a signed number, but
-/// for LUI and AUIPC, where it is the upper 20 bits as a number below 2^20, and for the CSR rows with
-/// an immediate, where it is the 5-bit number in the place of rs1. `rest` of the fences is the other 22
-/// bits of the word, bits 31 to 15 above bits 11 to 7. `aq` and `rl` are bits 26 and 25.
+/// `rd`, `rs1` and `rs2` are register numbers below 32. `imm` is the immediate as a signed number,
+/// but for LUI and AUIPC, where it is the upper 20 bits as a number below 2^20, and for the CSR
+/// rows with an immediate, where it is the 5-bit number in the place of rs1. `rest` of the fences
+/// is the other 22 bits of the word, bits 31 to 15 above bits 11 to 7. `aq` and `rl` are bits 26
+/// and 25.
 #[derive(Clone, Copy)]
 pub enum Instr {
     Lui {

@@ -75,7 +75,8 @@ fn name(instr: &Instr) -> &'static str {
     }
 }
 
-// One word a row, put together from its fields: funct7 or what stands there, rs2, rs1, funct3, rd, opcode.
+// One word a row, put together from its fields: funct7 or what stands there, rs2, rs1, funct3, rd,
+// opcode.
 const ROWS: [(u32, &str); 68] = [
     (0b00010010001101000101_00001_0110111, "lui"),
     (0b00100100011010001010_00100_0010111, "auipc"),
@@ -161,18 +162,18 @@ fn each_row_is_read_and_written_back(rt: HostRuntime) -> Result<(), Fail> {
 const OUTSIDE: [u32; 47] = [
     // no opcode, and the longest one
     0x0000_0000,
-    0xffff_ffff,
+    0xFFFF_FFFF,
     // low bits that begin a compressed instruction
-    0x0031_00b2,
-    0x0031_00b1,
-    0x0031_00b0,
+    0x0031_00B2,
+    0x0031_00B1,
+    0x0031_00B0,
     // OP-IMM-32 and OP-32, LOAD-FP and STORE-FP, OP-FP, custom-0
-    0x0000_001b,
-    0x0000_003b,
+    0x0000_001B,
+    0x0000_003B,
     0x0000_2007,
     0x0000_2027,
     0x0000_0053,
-    0x0000_000b,
+    0x0000_000B,
     // JALR with funct3 1
     0x0000_1067,
     // branches with funct3 2 and 3
@@ -198,7 +199,7 @@ const OUTSIDE: [u32; 47] = [
     0x0400_0033,
     0x8000_0033,
     // MISC-MEM with funct3 2
-    0x0000_200f,
+    0x0000_200F,
     // SYSTEM with funct3 4
     0x0000_4073,
     // URET, SRET, SFENCE.VMA
@@ -206,20 +207,20 @@ const OUTSIDE: [u32; 47] = [
     0x1020_0073,
     0x1200_0073,
     // ECALL, EBREAK, MRET and WFI with rd 1, with rs1 1
-    0x0000_00f3,
+    0x0000_00F3,
     0x0000_8073,
-    0x0010_00f3,
+    0x0010_00F3,
     0x0010_8073,
-    0x3020_00f3,
+    0x3020_00F3,
     0x3020_8073,
-    0x1050_00f3,
+    0x1050_00F3,
     0x1050_8073,
     // LR with rs2 1, funct5 5 and 31, AMOs of 8 bytes and of 1
-    0x1010_202f,
-    0x2800_202f,
-    0xf800_202f,
-    0x0000_302f,
-    0x0000_002f,
+    0x1010_202F,
+    0x2800_202F,
+    0xF800_202F,
+    0x0000_302F,
+    0x0000_002F,
 ];
 
 #[test]
@@ -321,7 +322,7 @@ fn fields_stand_in_their_places(rt: HostRuntime) {
     assert!(rt;
         matches!(
             decode(0b1000_0011_0001_00010_000_00001_0001111),
-            Some(Instr::Fence { rest: 0x20c441 })
+            Some(Instr::Fence { rest: 0x20C441 })
         )
     );
     assert!(rt;
@@ -350,7 +351,7 @@ fn fields_stand_in_their_places(rt: HostRuntime) {
 }
 
 // An instruction that was built, and not read: within its fields it is said by a word.
-#[tactic(auto, using(crate::proofs::Said::spelled_within))]
+#[tactic(auto, using(crate::proofs::EncodeLemmas::encodable_in_range))]
 #[test]
 fn a_built_instruction_has_its_word(rt: HostRuntime) {
     let load = Instr::Lw {
@@ -358,5 +359,5 @@ fn a_built_instruction_has_its_word(rt: HostRuntime) {
         rs1: 2,
         imm: -8,
     };
-    assert_eq!(rt; encode(&load), 0xff81_2503);
+    assert_eq!(rt; encode(&load), 0xFF81_2503);
 }

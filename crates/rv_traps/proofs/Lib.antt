@@ -1,2 +1,2 @@
-pub mod Masks
+pub mod MaskLemmas
 pub mod CsrLemmas

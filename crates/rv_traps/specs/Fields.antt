@@ -1,12 +1,13 @@
 -- The values of the machine's state that the CSRs hold, and the state that has them.
 use Rattle.std.specs.Prelude.{Bool}
 use Rattle.rv_traps.specs.declared.fields.CsrFields.{CsrFields}
-use Rattle.rv_traps.specs.CsrState.{CsrState, AreHeld}
+use Rattle.rv_traps.specs.CsrState.{CsrState, AreLegal}
 
--- what registers can hold: mstatus is 0x1800 with bits 3 and 7 free, mie is within 0x888, bit 1 of mtvec is 0, mepc is a
+-- what registers can hold: mstatus is 0x1800 with bits 3 and 7 free, mie is within 0x888, bit 1 of
+-- mtvec is 0, mepc is a
 -- multiple of 4
-abbrev pub IsHeld : CsrFields → Type 0
-IsHeld f = AreHeld f.mstatus f.mie f.mtvec f.mepc
+abbrev pub IsLegal : CsrFields → Type 0
+IsLegal f = AreLegal f.mstatus f.mie f.mtvec f.mepc
 
 abbrev pub fields_of : CsrState → CsrFields
 fields_of c = record {

@@ -1,3 +1,4 @@
+pub mod Cause
 pub mod CsrState
 pub mod CsrTable
 pub mod Trap

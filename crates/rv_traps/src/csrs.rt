@@ -1,11 +1,14 @@
-//! The registers, call by call.
+//! The control and status registers, call by call.
 
 ghost use Rattle.std.specs.Prelude.{◌≡◌, ◌<◌, ◌%◌, ◌^◌, IfSome};
 ghost use Rattle.std.specs.Bool.{OnFalse};
-ghost use Rattle.rv_traps.specs.Fields.{IsHeld, fields_of, state_of};
-ghost use Rattle.rv_traps.specs.CsrTable.{read_of, written, is_writable, mip_of, low_half, high_half};
-ghost use Rattle.rv_traps.specs.Trap.{due, entered, handler, returned, ticked, counted, started};
+ghost use Rattle.rv_traps.specs.Fields.{IsLegal, fields_of, state_of};
+ghost use Rattle.rv_traps.specs.CsrTable.{read_csr, write_csr, is_writable, mip_of, low_half, high_half};
+ghost use Rattle.rv_traps.specs.Trap.{pending_interrupt, enter_trap, trap_handler, return_from_trap, tick, count_step, boot_csrs};
 
+use crate::cause::{
+    INTERRUPT_BIT, MACHINE_EXTERNAL_INTERRUPT, MACHINE_SOFTWARE_INTERRUPT, MACHINE_TIMER_INTERRUPT,
+};
 use crate::fields::CsrFields;
 use crate::numbers::*;
 use crate::words;
@@ -32,7 +35,7 @@ pub struct Csrs {
 }
 
 impl Model for Csrs {
-    ghost use Rattle.rv_traps.specs.CsrState.{CsrState, AreHeld, AreWords};
+    ghost use Rattle.rv_traps.specs.CsrState.{CsrState, AreLegal, AreWords};
 
     ghost Value = { CsrState };
 
@@ -51,19 +54,20 @@ impl Model for Csrs {
       external = c.external;
     } };
 
-    ghost invariant = { λ c. (AreHeld c.mstatus c.mie c.mtvec c.mepc)
+    ghost invariant = { λ c. (AreLegal c.mstatus c.mie c.mtvec c.mepc)
         × (AreWords c.mtvec c.mscratch c.mepc c.mcause c.mtval) };
 }
 
 impl Csrs {
-    /// The registers of a machine that starts (RISC-V privileged, 3.4): all 0 but `mstatus`, which is 0x1800, and
+    /// The registers of a machine that starts (RISC-V privileged, 3.4): all 0 but `mstatus`, which
+    /// is 0x1800, and
     /// `mtimecmp`, which is all ones.
-    #[tactic(auto, unfolding(crate::specs::Trap::started))]
+    #[tactic(auto, unfolding(crate::specs::Trap::boot_csrs))]
     pub fn new() -> Csrs
-        ensures { result ≡ started }
+        ensures { result ≡ boot_csrs }
     {
         Csrs {
-            mstatus: words::status_of(false, false),
+            mstatus: words::mstatus_with(false, false),
             mie: 0,
             mtvec: 0,
             mscratch: 0,
@@ -78,15 +82,16 @@ impl Csrs {
         }
     }
 
-    /// What CSR `number` reads (RISC-V privileged, 2.2 and 3.1). `None` exactly where there is no such CSR.
-    #[tactic(auto, unfolding(crate::specs::CsrTable::read_of, crate::specs::CsrTable::row_at, crate::specs::CsrTable::table))]
+    /// What CSR `number` reads (RISC-V privileged, 2.2 and 3.1). `None` exactly where there is no
+    /// such CSR.
+    #[tactic(auto, unfolding(crate::specs::CsrTable::read_csr, crate::specs::CsrTable::row_at, crate::specs::CsrTable::table))]
     pub fn read(&self, number: u32) -> Option<u32>
-        ensures value { result ≡ read_of self.now number }
+        ensures value { result ≡ read_csr self.now number }
         ensures small { IfSome result (λ v. v < 2 ^ 32) }
     {
         let value = match number {
             MSTATUS => self.mstatus,
-            MISA => ISA,
+            MISA => RV32_WITH_A_I_M,
             MIE => self.mie,
             MTVEC => self.mtvec,
             MSCRATCH => self.mscratch,
@@ -102,20 +107,21 @@ impl Csrs {
         Some(value)
     }
 
-    /// Writes CSR `number` (RISC-V privileged, 2.1 to 3.1). `false` exactly where there is no such CSR or it is
+    /// Writes CSR `number` (RISC-V privileged, 2.1 to 3.1). `false` exactly where there is no such
+    /// CSR or it is
     /// read-only; nothing changes then. A write to `misa`, `mip` or a counter is ignored.
-    #[tactic(auto, unfolding(crate::specs::CsrTable::is_writable, crate::specs::CsrTable::written, crate::specs::CsrTable::write_at, crate::specs::CsrTable::row_at, crate::specs::CsrTable::table))]
+    #[tactic(auto, unfolding(crate::specs::CsrTable::is_writable, crate::specs::CsrTable::write_csr, crate::specs::CsrTable::write_at, crate::specs::CsrTable::row_at, crate::specs::CsrTable::table))]
     pub fn write(&mut self, number: u32, value: u32) -> bool
         ensures allowed { result ≡ is_writable number }
-        ensures effect { self.new ≡ written self.old number value }
+        ensures effect { self.new ≡ write_csr self.old number value }
         ensures refused { OnFalse result (self.new ≡ self.old) }
     {
         match number {
-            MSTATUS => self.mstatus = words::status_held(value),
-            MIE => self.mie = words::enables_held(value),
-            MTVEC => self.mtvec = words::vector_held(value),
+            MSTATUS => self.mstatus = words::mstatus_of(value),
+            MIE => self.mie = words::mie_of(value),
+            MTVEC => self.mtvec = words::mtvec_of(value),
             MSCRATCH => self.mscratch = value,
-            MEPC => self.mepc = words::address_held(value),
+            MEPC => self.mepc = words::mepc_of(value),
             MCAUSE => self.mcause = value,
             MTVAL => self.mtval = value,
             MISA | MIP | MCYCLE | MINSTRET | MCYCLEH | MINSTRETH => {}
@@ -124,17 +130,18 @@ impl Csrs {
         true
     }
 
-    /// Enters the trap of this cause and value at `pc`, a multiple of 4 (RISC-V privileged, 3.1.6.1 and 3.1.7). A cause
+    /// Enters the trap of this cause and value at `pc`, a multiple of 4 (RISC-V privileged, 3.1.6.1
+    /// and 3.1.7). A cause
     /// with bit 31 is an interrupt. The result is the new pc, a multiple of 4.
-    #[tactic(auto, unfolding(crate::specs::Trap::entered, crate::specs::Trap::handler))]
+    #[tactic(auto, unfolding(crate::specs::Trap::enter_trap, crate::specs::Trap::trap_handler))]
     pub fn enter(&mut self, cause: u32, value: u32, pc: u32) -> u32
         requires { pc % 4 ≡ 0 }
-        ensures effect { self.new ≡ entered self.old cause value pc }
-        ensures target { result ≡ handler self.old cause }
+        ensures effect { self.new ≡ enter_trap self.old cause value pc }
+        ensures target { result ≡ trap_handler self.old cause }
         ensures aligned { result % 4 ≡ 0 }
         ensures small { result < 2 ^ 32 }
     {
-        self.mstatus = words::status_of(false, words::is_set(3, self.mstatus));
+        self.mstatus = words::mstatus_with(false, words::is_set(3, self.mstatus));
         self.mepc = pc;
         self.mcause = cause;
         self.mtval = value;
@@ -146,34 +153,36 @@ impl Csrs {
         }
     }
 
-    /// Returns from a trap (RISC-V privileged, 3.3.2). The result is the new pc, which is `mepc`, a multiple of 4.
-    #[tactic(auto, unfolding(crate::specs::Trap::returned))]
+    /// Returns from a trap (RISC-V privileged, 3.3.2). The result is the new pc, which is `mepc`, a
+    /// multiple of 4.
+    #[tactic(auto, unfolding(crate::specs::Trap::return_from_trap))]
     pub fn leave(&mut self) -> u32
-        ensures effect { self.new ≡ returned self.old }
+        ensures effect { self.new ≡ return_from_trap self.old }
         ensures target { result ≡ self.old.mepc }
         ensures aligned { result % 4 ≡ 0 }
         ensures small { result < 2 ^ 32 }
     {
-        self.mstatus = words::status_of(words::is_set(7, self.mstatus), true);
+        self.mstatus = words::mstatus_with(words::is_set(7, self.mstatus), true);
         self.mepc
     }
 
-    /// The cause of the due interrupt, with bit 31 set (RISC-V privileged, 3.1.9). `None` exactly where none is due.
-    #[tactic(auto, unfolding(crate::specs::Trap::due))]
+    /// The cause of the due interrupt, with bit 31 set (RISC-V privileged, 3.1.9). `None` exactly
+    /// where none is due.
+    #[tactic(auto, unfolding(crate::specs::Trap::pending_interrupt))]
     pub fn pending(&self) -> Option<u32>
-        ensures value { result ≡ due self.now }
+        ensures value { result ≡ pending_interrupt self.now }
         ensures small { IfSome result (λ v. v < 2 ^ 32) }
     {
         if !words::is_set(3, self.mstatus) {
             return None;
         }
         let shared = self.mie & self.mip();
-        if words::is_set(EXTERNAL, shared) {
-            Some(INTERRUPT + EXTERNAL)
-        } else if words::is_set(SOFTWARE, shared) {
-            Some(INTERRUPT + SOFTWARE)
-        } else if words::is_set(TIMER, shared) {
-            Some(INTERRUPT + TIMER)
+        if words::is_set(MACHINE_EXTERNAL_INTERRUPT, shared) {
+            Some(INTERRUPT_BIT + MACHINE_EXTERNAL_INTERRUPT)
+        } else if words::is_set(MACHINE_SOFTWARE_INTERRUPT, shared) {
+            Some(INTERRUPT_BIT + MACHINE_SOFTWARE_INTERRUPT)
+        } else if words::is_set(MACHINE_TIMER_INTERRUPT, shared) {
+            Some(INTERRUPT_BIT + MACHINE_TIMER_INTERRUPT)
         } else {
             None
         }
@@ -181,7 +190,7 @@ impl Csrs {
 
     /// `mtime` goes on by `d` microseconds, modulo 2^64 (RISC-V privileged, 3.2.1).
     pub fn tick(&mut self, d: u64)
-        ensures { self.new ≡ ticked self.old d }
+        ensures { self.new ≡ tick self.old d }
     {
         self.mtime = self.mtime.wrapping_add(d);
     }
@@ -207,7 +216,8 @@ impl Csrs {
         self.msip = on;
     }
 
-    /// The time in microseconds from which the timer's interrupt is pending (RISC-V privileged, 3.2.1).
+    /// The time in microseconds from which the timer's interrupt is pending (RISC-V privileged,
+    /// 3.2.1).
     pub fn mtimecmp(&self) -> u64
         ensures { result ≡ self.now.mtimecmp }
     {
@@ -228,9 +238,10 @@ impl Csrs {
         self.mtime
     }
 
-    /// Counts one step more, modulo 2^64, as `mcycle` and `minstret` read it (RISC-V privileged, 3.1.10).
+    /// Counts one step more, modulo 2^64, as `mcycle` and `minstret` read it (RISC-V privileged,
+    /// 3.1.10).
     pub fn count(&mut self)
-        ensures { self.new ≡ counted self.old }
+        ensures { self.new ≡ count_step self.old }
     {
         self.steps = self.steps.wrapping_add(1);
     }
@@ -245,7 +256,7 @@ impl Csrs {
     /// The values that the registers hold.
     pub fn fields(&self) -> CsrFields
         ensures value { result ≡ fields_of self.now }
-        ensures held { IsHeld result }
+        ensures legal { IsLegal result }
     {
         CsrFields {
             mstatus: self.mstatus,
@@ -262,9 +273,10 @@ impl Csrs {
         }
     }
 
-    /// Sets the values that the registers hold, which `CsrFields::is_held` tests. What `external` set stays.
+    /// Sets the values that the registers hold, which `CsrFields::is_legal` tests. What `external`
+    /// set stays.
     pub fn set_fields(&mut self, f: &CsrFields)
-        requires { IsHeld f.now }
+        requires { IsLegal f.now }
         ensures { self.new ≡ state_of f.now self.old.external }
     {
         *self = Csrs::holding(*f, self.external);
@@ -272,7 +284,7 @@ impl Csrs {
 
     /// Registers that hold these values, with the devices' line.
     fn holding(f: CsrFields, external: bool) -> Csrs
-        requires { IsHeld f }
+        requires { IsLegal f }
         ensures { result ≡ state_of f external }
     {
         Csrs {
@@ -291,7 +303,8 @@ impl Csrs {
         }
     }
 
-    /// `mip`: bit 3 is the software interrupt's line, bit 7 says that the time has come, bit 11 is the devices' line.
+    /// `mip`: bit 3 is the software interrupt's line, bit 7 says that the time has come, bit 11 is
+    /// the devices' line.
     fn mip(&self) -> u32
         ensures { result ≡ mip_of self.now }
     {

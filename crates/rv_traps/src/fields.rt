@@ -1,13 +1,14 @@
 //! The values of the CSRs and the timer, as a machine's state holds them.
 
 ghost use Rattle.std.specs.Prelude.{◌↔◌, IsTrue};
-ghost use Rattle.rv_traps.specs.Fields.{IsHeld};
+ghost use Rattle.rv_traps.specs.Fields.{IsLegal};
 
 use crate::words;
 
 /// What a `Csrs` holds, but for the devices' line.
 ///
-/// `msip` is the software interrupt's line, `mtime` and `mtimecmp` are the timer's, and `steps` is the number of steps
+/// `msip` is the software interrupt's line, `mtime` and `mtimecmp` are the timer's, and `steps` is
+/// the number of steps
 /// that were made.
 #[derive(Clone, Copy, Debug, PartialEq, Eq)]
 pub struct CsrFields {
@@ -25,13 +26,14 @@ pub struct CsrFields {
 }
 
 impl CsrFields {
-    /// Whether registers can hold these values: `mstatus` is 0x1800 with bits 3 and 7 free, `mie` is within 0x888,
+    /// Whether registers can hold these values: `mstatus` is 0x1800 with bits 3 and 7 free, `mie`
+    /// is within 0x888,
     /// bit 1 of `mtvec` is 0, and `mepc` is a multiple of 4.
-    pub fn is_held(&self) -> bool
-        ensures { IsTrue result ↔ IsHeld self.now }
+    pub fn is_legal(&self) -> bool
+        ensures { IsTrue result ↔ IsLegal self.now }
     {
-        words::status_held(self.mstatus) == self.mstatus
-            && words::enables_held(self.mie) == self.mie
+        words::mstatus_of(self.mstatus) == self.mstatus
+            && words::mie_of(self.mie) == self.mie
             && !words::is_set(1, self.mtvec)
             && self.mepc % 4 == 0
     }

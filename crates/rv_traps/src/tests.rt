@@ -113,7 +113,7 @@ fn fields_set_and_given(rt: HostRuntime) {
         (true, 5, 6, 0x7_0000_0006)
     );
     let given = csrs.fields();
-    assert!(rt; given.is_held());
+    assert!(rt; given.is_legal());
     assert_eq!(rt; given.mtvec, 0x8000_0101);
     for (mstatus, mie, mtvec, mepc) in [
         (0x800, 0, 0, 0),
@@ -128,6 +128,6 @@ fn fields_set_and_given(rt: HostRuntime) {
             mepc,
             ..given
         };
-        assert!(rt; !other.is_held(), "{mstatus:x} {mie:x} {mtvec:x} {mepc:x}");
+        assert!(rt; !other.is_legal(), "{mstatus:x} {mie:x} {mtvec:x} {mepc:x}");
     }
 }

@@ -1,7 +1,8 @@
-//! Words of bits: one bit, and what `mstatus`, `mie`, `mtvec` and `mepc` hold of a word that is written.
+//! Words of bits: one bit, and what `mstatus`, `mie`, `mtvec` and `mepc` hold of a word that is
+//! written.
 
 ghost use Rattle.std.specs.Prelude.{◌≡◌, ◌<◌, ◌^◌, ◌%◌, false};
-ghost use Rattle.rv_traps.specs.CsrState.{is_set, status_of, status_held, enables_held, vector_held, address_held};
+ghost use Rattle.rv_traps.specs.CsrState.{is_set, mstatus_with, mstatus_of, mie_of, mtvec_of, mepc_of};
 
 /// Bit `k` of `word`.
 pub fn is_set(k: u32, word: u32) -> bool
@@ -12,8 +13,8 @@ pub fn is_set(k: u32, word: u32) -> bool
 }
 
 /// `mstatus` with these MIE and MPIE.
-pub fn status_of(enabled: bool, previous: bool) -> u32
-    ensures { result ≡ status_of enabled previous }
+pub fn mstatus_with(enabled: bool, previous: bool) -> u32
+    ensures { result ≡ mstatus_with enabled previous }
 {
     let low = if enabled { 0x8 } else { 0 };
     let high = if previous { 0x80 } else { 0 };
@@ -21,35 +22,35 @@ pub fn status_of(enabled: bool, previous: bool) -> u32
 }
 
 /// What `mstatus` holds of `word`.
-pub fn status_held(word: u32) -> u32
-    ensures { result ≡ status_held word }
+pub fn mstatus_of(word: u32) -> u32
+    ensures { result ≡ mstatus_of word }
 {
-    status_of(is_set(3, word), is_set(7, word))
+    mstatus_with(is_set(3, word), is_set(7, word))
 }
 
 /// What `mie` holds of `word`.
-#[tactic(auto, using(crate::proofs::Masks::enables_held_twice))]
-pub fn enables_held(word: u32) -> u32
-    ensures value { result ≡ enables_held word }
-    ensures held { enables_held result ≡ result }
+#[tactic(auto, using(crate::proofs::MaskLemmas::mie_of_twice))]
+pub fn mie_of(word: u32) -> u32
+    ensures value { result ≡ mie_of word }
+    ensures legal { mie_of result ≡ result }
 {
     word & 0x888
 }
 
 /// What `mtvec` holds of `word`.
-#[tactic(auto, using(crate::proofs::Masks::is_set_vector_held))]
-pub fn vector_held(word: u32) -> u32
-    ensures value { result ≡ vector_held word }
-    ensures held { is_set 1 result ≡ false }
+#[tactic(auto, using(crate::proofs::MaskLemmas::is_set_mtvec_of))]
+pub fn mtvec_of(word: u32) -> u32
+    ensures value { result ≡ mtvec_of word }
+    ensures legal { is_set 1 result ≡ false }
     ensures small { result < 2 ^ 32 }
 {
     word & 0xFFFF_FFFD
 }
 
 /// What `mepc` holds of `word`.
-pub fn address_held(word: u32) -> u32
-    ensures value { result ≡ address_held word }
-    ensures held { result % 4 ≡ 0 }
+pub fn mepc_of(word: u32) -> u32
+    ensures value { result ≡ mepc_of word }
+    ensures legal { result % 4 ≡ 0 }
 {
     word / 4 * 4
 }

@@ -2,9 +2,9 @@
 use Rattle.std.proofs.Common.{sym, ◌∙◌, subst, rules}
 use Rattle.std.specs.Prelude.{IfSome}
 use Rattle.rv_isa.specs.Ranges.{IsWithin}
-use Rattle.rv_isa.specs.Table.{IsSpelled}
-use Rattle.rv_isa.proofs.Rows.{one_row, row_at, all_unfit}
-use Rattle.rv_isa.proofs.Within.{within, spelled}
+use Rattle.rv_isa.specs.Table.{IsEncodable}
+use Rattle.rv_isa.proofs.RowLemmas.{one_row, row_at, all_unfit}
+use Rattle.rv_isa.proofs.RangeLemmas.{within, encodable}
 use Rattle.rv_isa.proofs.decoder.decode.Goals as goal
 
 pub returns-clause-one_row : goal.returns-clause-one_row
@@ -19,5 +19,6 @@ returns-clause-none c none = all_unfit c.args.word (sym c.instruction.ensures �
 pub returns-clause-within : goal.returns-clause-within
 returns-clause-within c = subst (λ o. IfSome o IsWithin) (sym c.instruction.ensures) (within c.args.word (search rules))
 
-pub returns-clause-spelled : goal.returns-clause-spelled
-returns-clause-spelled c = subst (λ o. IfSome o IsSpelled) (sym c.instruction.ensures) (spelled c.args.word (search rules))
+pub returns-clause-encodable : goal.returns-clause-encodable
+returns-clause-encodable c =
+    subst (λ o. IfSome o IsEncodable) (sym c.instruction.ensures) (encodable c.args.word (search rules))
