@@ -1,5 +1,5 @@
-pub mod Built
-pub mod CleanEdits
-pub mod CleanOptions
-pub mod Edits
-pub mod Written
+pub mod CleanLemmas
+pub mod EditLemmas
+pub mod LawLemmas
+pub mod OptionLemmas
+pub mod SegmentLemmas

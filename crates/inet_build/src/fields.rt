@@ -1,6 +1,8 @@
+//! The fields of a segment of the guest.
+
 use inet_frame::Tuple;
 
-/// What a TCP segment of the guest says to a client.
+/// The fields of a TCP segment of the guest to a client.
 #[derive(Clone, Copy, PartialEq, Eq, Debug)]
 pub struct Segment {
     /// The MAC address that the frame goes to.

@@ -3,11 +3,12 @@
 //!
 //! ```
 //! use inet_build::{Segment, segment};
-//! use inet_frame::Tuple;
+//! use inet_frame::{Tuple, flag};
 //! use std::alloc::{AllocError, Global};
 //!
-//! fn reset(alloc: Global, dst_mac: [u8; 6], tuple: Tuple, seq: u32) -> Result<Vec<u8>, AllocError> {
-//!     let fields = Segment { dst_mac, tuple, seq, ack: 0, flags: 4, window: 0, mss: None };
+//! fn reset(alloc: Global, mac: [u8; 6], tuple: Tuple, seq: u32) -> Result<Vec<u8>, AllocError> {
+//!     let fields =
+//!         Segment { dst_mac: mac, tuple, seq, ack: 0, flags: flag::RST, window: 0, mss: None };
 //!     segment(alloc, &fields, &[])
 //! }
 //! ```
@@ -16,11 +17,13 @@
 mod build;
 mod edit;
 mod fields;
+mod law;
 mod options;
 
 pub use build::segment;
 pub use edit::{clean_syn, shift_ack};
 pub use fields::Segment;
+pub use law::{edits_keep_the_rest, segments_read_back};
 
 #[cfg(test)]
 mod tests;

@@ -1,5 +1,7 @@
+//! Clean options of a TCP header.
+
 ghost use Rattle.std.specs.Prelude.{◌≡◌, ◌<◌, [], ◌∷◌, length};
-ghost use Rattle.inet_build.specs.Options as spec;
+ghost use Rattle.inet_build.specs.Options.{is_unwanted, clean_option, has_unwanted, clean_options};
 
 use inet_frame::{NO_OPERATION, option_len};
 
@@ -12,8 +14,8 @@ const TIMESTAMPS: u8 = 8;
 
 /// Cleans the options of a TCP header in place, and says whether one was overwritten.
 pub(crate) fn clean_options(options: &mut [u8]) -> bool
-    ensures cleaned { options.new ≡ spec.cleaned_options options.old }
-    ensures found { result ≡ spec.has_unwanted options.old }
+    ensures cleaned { options.new ≡ clean_options options.old }
+    ensures found { result ≡ has_unwanted options.old }
 {
     let mut found = false;
     let mut at = 0;
@@ -31,8 +33,8 @@ pub(crate) fn clean_options(options: &mut [u8]) -> bool
 /// Overwrites an unwanted option, and says whether it was one.
 fn clean_option(option: &mut [u8]) -> bool
     requires { 0 < length option.old }
-    ensures cleaned { option.new ≡ spec.cleaned_option option.old }
-    ensures unwanted { result ≡ spec.is_unwanted option.old }
+    ensures cleaned { option.new ≡ clean_option option.old }
+    ensures unwanted { result ≡ is_unwanted option.old }
 {
     let unwanted = is_unwanted(option[0]);
     if unwanted {
@@ -41,8 +43,9 @@ fn clean_option(option: &mut [u8]) -> bool
     unwanted
 }
 
+/// Window scale, selective acknowledgements permitted, or timestamps.
 fn is_unwanted(kind: u8) -> bool
-    ensures { result ≡ spec.is_unwanted (kind ∷ []) }
+    ensures { result ≡ is_unwanted (kind ∷ []) }
 {
     kind == WINDOW_SCALE || kind == SACK_PERMITTED || kind == TIMESTAMPS
 }

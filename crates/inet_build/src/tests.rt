@@ -1,3 +1,5 @@
+//! A released SYN, segments of the shortest and longest payloads, and a client's SYN edited.
+
 use super::*;
 use crate::options::clean_options;
 use inet_frame::{Tuple, is_tcp};

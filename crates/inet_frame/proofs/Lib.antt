@@ -1,3 +1,5 @@
-pub mod OnesSum
-pub mod OptionWalk
-pub mod Segments
+pub mod ByteLemmas
+pub mod FieldLemmas
+pub mod FrameLemmas
+pub mod OptionLemmas
+pub mod SumLemmas

@@ -1,8 +1,10 @@
 pub mod Arp
+pub mod Bytes
 pub mod Counted
 pub mod Fields
 pub mod Flags
 pub mod Frame
+pub mod Laws
 pub mod Options
 pub mod Place
 pub mod Sum

@@ -17,6 +17,7 @@
 mod arp;
 pub mod flag;
 mod ipv4;
+mod law;
 mod options;
 mod parser;
 pub mod place;
@@ -28,6 +29,7 @@ mod udp;
 mod why;
 
 pub use arp::{ArpView, arp_reply};
+pub use law::{fields_fit, reply_is_no_tcp};
 pub use options::{NO_OPERATION, mss, option_len};
 pub use parser::{Seen, counted, is_arp, is_tcp, parse};
 pub use sum::{ones_sum, pseudo_sum};

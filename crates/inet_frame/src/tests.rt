@@ -128,7 +128,7 @@ fn an_arp_request_is_answered(rt: HostRuntime) {
     }
 }
 
-/// The example of RFC 1071, 3, whole and with an odd last byte, and the pseudo header of `SUMMED_UDP`.
+/// The example of RFC 1071, 3, whole and with an odd last byte, and the sum of `SUMMED_UDP`.
 #[test]
 fn sums_are_those_of_the_standard(rt: HostRuntime) {
     let example = [0x00, 0x01, 0xF2, 0x03, 0xF4, 0xF5, 0xF6, 0xF7];

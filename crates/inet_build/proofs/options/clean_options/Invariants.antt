@@ -1,6 +1,6 @@
 -- What lies before `at` is cleaned, and an option of `len` bytes begins there.
 use Rattle.std.proofs.Common.{◌-◌, length}
-use Rattle.inet_build.proofs.CleanOptions.{Walked}
+use Rattle.inet_build.proofs.OptionLemmas.{Walked}
 use Rattle.inet_build.proofs.options.clean_options.Given as goal
 
 abbrev pub invariant-loop-len : goal.invariant-loop-len

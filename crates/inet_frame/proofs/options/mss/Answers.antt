@@ -1,7 +1,7 @@
 use Rattle.std.proofs.Common.{◌≡◌, ℕ, ◌<◌, drop, arith, ap, sym, ◌∙◌}
 use Rattle.std.proofs.lemmas.List.{take_rest}
 use Rattle.inet_frame.specs.Options.{option_len, mss_of}
-use Rattle.inet_frame.proofs.OptionWalk.{mss_none, mss_here, mss_later_len, mss_later_kind}
+use Rattle.inet_frame.proofs.OptionLemmas.{mss_none, mss_here, mss_later_len, mss_later_kind}
 use Rattle.inet_frame.proofs.options.mss.Goals as goal
 use Rattle.inet_frame.proofs.options.mss.Goals.{
   else-len-eq4-via-then-len-eq4+else-rest-eq-MAXIMUM_SEGMENT_SIZE,

@@ -1,67 +1,24 @@
 -- Laws of the one's complement sum (RFC 1071, 2).
-use Rattle.std.proofs.Common.{
-  ◌≡◌,
-  ℕ,
-  ◌+◌,
-  ◌-◌,
-  ◌*◌,
-  ◌<◌,
-  ◌≤◌,
-  zero,
-  suc,
-  List,
-  [],
-  ◌∷◌,
-  ◌++◌,
-  length,
-  get_or,
-  take,
-  drop,
-  refl,
-  ap,
-  ◌∙◌,
-  arith,
-  ⊎_elim,
-}
-use Rattle.std.proofs.lemmas.Bool.{cases_lt}
+use Rattle.std.proofs.Common.{◌≡◌, ℕ, ◌+◌, ◌-◌, ◌*◌, ◌<◌, zero, suc, List, [], ◌∷◌, ◌++◌, length, refl, ap, ◌∙◌, arith}
 use Rattle.std.proofs.lemmas.Bool.Decides.{nat_tests}
-use Rattle.std.proofs.lemmas.List.{get_or-take, get_or-drop, get_or_past, length-take}
-use Rattle.std.specs.List.{fold, slice_range}
+use Rattle.std.specs.List.{fold}
+use Rattle.inet_frame.specs.Bytes.{AreBytes}
 use Rattle.inet_frame.specs.Sum.{ones_add, ones_sum, words}
 
--- each number of the list is a byte
-abbrev pub Bytes : List ℕ → Type 0
-Bytes xs = (k : ℕ) → get_or xs k 0 < 256
-
-pub Bytes_drop : (n : ℕ) (xs : List ℕ) → Bytes xs → Bytes (drop n xs)
-Bytes_drop n xs h = λ k. rw get_or-drop (h (n + k))
-
-pub Bytes_take : (n : ℕ) (xs : List ℕ) → Bytes xs → Bytes (take n xs)
-Bytes_take n xs h = λ k.
-    ⊎_elim
-    (λ (lt : k < n). rw get_or-take (h k))
-    (λ (ge : n ≤ k).
-    let past : length (take n xs) ≤ k = omega (arith, length-take n xs) in
-    rw get_or_past (omega arith))
-    (cases_lt k n)
-
-pub Bytes_range : (xs : List ℕ) (i j : ℕ) → Bytes xs → Bytes (slice_range xs i j)
-Bytes_range xs i j h = Bytes_take (j - i) (drop i xs) (Bytes_drop i xs h)
-
-Bytes_tail : (x : ℕ) (xs : List ℕ) → Bytes (x ∷ xs) → Bytes xs
-Bytes_tail x xs h = λ k. h (suc k)
+AreBytes_tail : (x : ℕ) (xs : List ℕ) → AreBytes (x ∷ xs) → AreBytes xs
+AreBytes_tail x xs h = λ k. h (suc k)
 
 -- each number of the list is a word of 16 bits
 abbrev Words : List ℕ → Type 0
 Words [] = Unit {0}
 Words (w ∷ ws) = (w < 65536) × Words ws
 
-words_fit : (xs : List ℕ) → Bytes xs → Words (words xs)
+words_fit : (xs : List ℕ) → AreBytes xs → Words (words xs)
 words_fit [] h = tt
 words_fit (x ∷ []) h = let hx = h 0 in (omega arith, tt)
 words_fit (x ∷ y ∷ xs) h = let hx = h 0 in let hy = h 1 in (
   omega arith,
-  words_fit xs (Bytes_tail y xs (Bytes_tail x (y ∷ xs) h)),
+  words_fit xs (AreBytes_tail y xs (AreBytes_tail x (y ∷ xs) h)),
 )
 
 pub ones_add_fits : (a b : ℕ) → a < 65536 → b < 65536 → ones_add a b < 65536
@@ -87,7 +44,7 @@ fold_moved (x ∷ ws) a w ha hw h =
     ap (λ (s : ℕ). fold ones_add s ws) (ones_add_swap a w x ha hw h.0)
     ∙ fold_moved ws (ones_add a x) w (ones_add_fits a x ha h.0) hw h.1
 
-pub ones_sum_fits : (s : ℕ) (xs : List ℕ) → s < 65536 → Bytes xs → ones_sum s xs < 65536
+pub ones_sum_fits : (s : ℕ) (xs : List ℕ) → s < 65536 → AreBytes xs → ones_sum s xs < 65536
 ones_sum_fits s xs hs h = fold_fits (words xs) s hs (words_fit xs h)
 
 -- a front of an even length may be summed first
@@ -100,7 +57,7 @@ ones_sum_append (suc n) s (x ∷ []) ys e = absurd (omega arith)
 ones_sum_append (suc n) s (x ∷ y ∷ xs) ys e = ones_sum_append n (ones_add s (x * 256 + y)) xs ys (omega arith)
 
 -- a word that is the complement of the sum with 0 in its place makes the sum 0xFFFF
-pub ones_sum_closed : (s high low : ℕ) (ys : List ℕ) → s < 65536 → Bytes ys →
+pub ones_sum_closed : (s high low : ℕ) (ys : List ℕ) → s < 65536 → AreBytes ys →
     high * 256 + low ≡ 65535 - ones_sum s (0 ∷ 0 ∷ ys) → ones_sum s (high ∷ low ∷ ys) ≡ 65535
 ones_sum_closed s high low ys hs h e =
     let ws = words ys in
