@@ -1,5 +1,5 @@
 -- The bus of the machine: memory, and the core-local interruptor. An access to anything else is refused.
-use Rattle.std.specs.Prelude.{ℕ, ◌||◌, Bool, Option, Some, None, if◌then◌else◌}
+use Rattle.std.specs.Prelude.{ℕ, ◌||◌, Bool, false, Option, Some, None, if◌then◌else◌}
 use Rattle.rv_core.specs.Acts.{Acts}
 use Rattle.colo_top.specs.Memory.{is_inside, loaded, stored}
 use Rattle.colo_top.specs.Clint.{clint_loaded, clint_stores, clint_stored}
@@ -27,4 +27,10 @@ board_stored b addr width value =
     else record b { clint = clint_stored b.clint addr width value }
 
 abbrev pub board_acts : Acts Board
-board_acts = record { fetched = board_fetched; loaded = board_loaded; stores = board_stores; stored = board_stored }
+board_acts = record {
+  fetched = board_fetched;
+  loaded = board_loaded;
+  stores = board_stores;
+  stored = board_stored;
+  wants = λ b addr width value. false;
+}

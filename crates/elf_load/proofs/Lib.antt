@@ -1,3 +1,3 @@
-pub mod Cases
-pub mod Place
-pub mod Table
+pub mod CaseLemmas
+pub mod PlaceLemmas
+pub mod TableLemmas

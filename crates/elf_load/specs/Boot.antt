@@ -1,48 +1,34 @@
--- What the machine's memory holds at boot, and why an image is refused: Tool Interface Standard, Executable and
--- Linking Format 1.2, book I, "ELF Header" and "Program Header", with p_paddr as a segment's place. Memory begins
--- at 0x80000000.
-use Rattle.std.specs.Prelude.{ℕ, ◌+◌, ◌-◌, ◌*◌, ◌%◌, ◌==◌, Bool, not, ◌&&◌, ◌||◌, nat_lt, nat_le, nat_eq, if◌then◌else◌, Option, Some, None, List, [], ◌∷◌, ◌++◌, length, take, drop, replicate, fold, slice_index, slice_range}
+-- What the machine's memory holds at boot, and why an image is refused: Tool Interface Standard,
+-- Executable and Linking Format 1.2, book I, "ELF Header" and "Program Header", with p_paddr as a
+-- segment's place. Memory begins at 0x80000000.
+use Rattle.std.specs.Prelude.{ℕ, ◌+◌, ◌-◌, ◌*◌, ◌%◌, ◌==◌, Bool, not, ◌&&◌, ◌||◌, nat_lt, nat_eq, Option, List, [], ◌∷◌, ◌++◌, length, replicate, fold, slice_index, slice_range}
 use Rattle.std.specs.List.{list_any, list_all, starts_with}
+use Rattle.shared_definitions.specs.FirstOf.{Case, first_of}
+use Rattle.shared_definitions.specs.Memory.{place_of, is_inside}
+use Rattle.shared_definitions.specs.Overwrite.{overwrite}
 use Rattle.elf_load.specs.declared.header.ProgramHeader.{ProgramHeader}
 use Rattle.elf_load.specs.Elf.{half_at, entry_of, table_place, table_count, segments}
 
--- the address of memory's first byte
-abbrev pub ram_base : ℕ
-ram_base = 0x80000000
-
--- a reason to refuse an image: its number, and whether it holds
-abbrev pub Case : Type 0
-Case = ℕ × Bool
-
--- the number of the first case that holds
-abbrev pub first_of : List Case → Option ℕ
-first_of [] = None
-first_of (test ∷ tests) = if test.1 then Some test.0 else first_of tests
-
--- whether the n bytes from an address on are all in memory of this size
-abbrev pub is_inside : ℕ → ℕ → ℕ → Bool
-is_inside size address n = nat_le ram_base address && nat_le (address + n) (ram_base + size)
-
--- whether a segment of a file of n bytes has more bytes there than in memory, or bytes past the file's end
+-- whether a segment of a file of n bytes has more bytes there than in memory, or bytes past the
+-- file's end
 abbrev pub overruns : ℕ → ProgramHeader → Bool
-overruns n segment = nat_lt segment.memory_size segment.file_size
-    || (nat_lt 0 segment.file_size && nat_lt n (segment.offset + segment.file_size))
+overruns n segment = nat_lt segment.p_memsz segment.p_filesz
+    || (nat_lt 0 segment.p_filesz && nat_lt n (segment.p_offset + segment.p_filesz))
 
 -- whether a segment has bytes that are not in memory
 abbrev pub lies_outside : ℕ → ProgramHeader → Bool
-lies_outside size segment =
-    nat_lt 0 segment.memory_size && not (is_inside size segment.address segment.memory_size)
+lies_outside size segment = not (is_inside size segment.p_paddr segment.p_memsz)
 
 -- whether a segment has no byte in memory
 abbrev pub is_empty : ProgramHeader → Bool
-is_empty segment = segment.memory_size == 0
+is_empty segment = segment.p_memsz == 0
 
 -- whether a program can begin at an address: it is in memory of this size, and a multiple of 4
 abbrev pub can_start : ℕ → ℕ → Bool
 can_start size address = is_inside size address 1 && (address % 4 == 0)
 
--- the cases of the file header and the place of the program header table. Beside each stands what
--- it is that fails
+-- the cases of the file header and the place of the program header table; beside each stands what
+-- fails
 abbrev pub file_cases : List ℕ → List Case
 file_cases bytes =
     (1, nat_lt (length bytes) 52)  -- a file header has 52 bytes
@@ -70,14 +56,14 @@ elf_case size bytes = first_of (file_cases bytes ++ segment_cases size bytes)
 
 -- what a segment holds: its bytes of the file, then zeros
 abbrev pub content : List ℕ → ProgramHeader → List ℕ
-content bytes segment = slice_range bytes segment.offset (segment.offset + segment.file_size)
-    ++ replicate (segment.memory_size - segment.file_size) 0
+content bytes segment = slice_range bytes segment.p_offset (segment.p_offset + segment.p_filesz)
+    ++ replicate (segment.p_memsz - segment.p_filesz) 0
 
--- memory after a segment was put at its physical address
-unfoldable pub placed : List ℕ → List ℕ → ProgramHeader → List ℕ
-placed bytes memory segment = let at = segment.address - ram_base in
-    take at memory ++ (content bytes segment ++ drop (at + segment.memory_size) memory)
+-- memory with a segment at its physical address
+unfoldable pub place_segment : List ℕ → List ℕ → ProgramHeader → List ℕ
+place_segment bytes memory segment =
+    overwrite memory (place_of segment.p_paddr) (content bytes segment)
 
 -- memory of this size at boot: zeros, and each segment in its order
 unfoldable pub boot_memory : ℕ → List ℕ → List ℕ
-boot_memory size bytes = fold (placed bytes) (replicate size 0) (segments bytes)
+boot_memory size bytes = fold (place_segment bytes) (replicate size 0) (segments bytes)

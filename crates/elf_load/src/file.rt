@@ -1,8 +1,9 @@
 //! The file header, and the place of the program header table.
 
 ghost use Rattle.std.specs.Prelude.{◌≡◌, ◌+◌, ◌*◌, ◌≤◌, ◌<◌, length, None, Some, MatchResult, OnOk};
-ghost use Rattle.elf_load.specs.Elf.{entry_of, table_place, table_count, header_at};
-ghost use Rattle.elf_load.specs.Boot.{file_cases, first_of};
+ghost use Rattle.elf_load.specs.Elf.{HasTable, entry_of, table_place, table_count, header_at};
+ghost use Rattle.elf_load.specs.Boot.{file_cases};
+ghost use Rattle.shared_definitions.specs.FirstOf.{first_of};
 
 use crate::fault::ElfFault;
 use crate::header::{ProgramHeader, half, word};
@@ -44,7 +45,7 @@ pub(crate) fn check_file(bytes: &[u8]) -> Result<(), ElfFault>
         (λ _. first_of (file_cases bytes.now) ≡ None)
         (λ fault. first_of (file_cases bytes.now) ≡ Some fault.number) }
     ensures long { OnOk result (52 ≤ length bytes.now) }
-    ensures table { OnOk result (table_place bytes.now + 32 * table_count bytes.now ≤ length bytes.now) }
+    ensures table { OnOk result (HasTable bytes.now) }
 {
     if bytes.len() < HEADER_SIZE {
         return Err(ElfFault::SHORT);
@@ -94,7 +95,7 @@ pub(crate) fn count(bytes: &[u8]) -> usize
 /// Entry `k` of the program header table.
 pub(crate) fn header(bytes: &[u8], k: usize) -> ProgramHeader
     requires long { 52 ≤ length bytes.now }
-    requires table { table_place bytes.now + 32 * table_count bytes.now ≤ length bytes.now }
+    requires table { HasTable bytes.now }
     requires entry { k < table_count bytes.now }
     ensures { result ≡ header_at bytes.now (table_place bytes.now + 32 * k) }
 {

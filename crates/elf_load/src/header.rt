@@ -9,18 +9,18 @@ use byteorder::{ByteOrder, LittleEndian};
 #[derive(Clone, Copy)]
 pub struct ProgramHeader {
     /// `p_type`.
-    pub kind: u32,
+    pub p_type: u32,
     /// `p_offset`: where the segment begins in the file.
-    pub offset: u32,
+    pub p_offset: u32,
     /// `p_paddr`: where it begins in memory.
-    pub address: u32,
+    pub p_paddr: u32,
     /// `p_filesz`: its bytes in the file.
-    pub file_size: u32,
+    pub p_filesz: u32,
     /// `p_memsz`: its bytes in memory.
-    pub memory_size: u32,
+    pub p_memsz: u32,
 }
 
-/// The 2 bytes at a place, the lowest first.
+/// The 2 bytes at a place, little-endian.
 #[tactic(auto, unfolding(crate::specs::Elf::half_at))]
 pub(crate) fn half(bytes: &[u8], at: usize) -> u16
     requires { at + 2 ≤ length bytes.now }
@@ -29,7 +29,7 @@ pub(crate) fn half(bytes: &[u8], at: usize) -> u16
     LittleEndian::read_u16(&bytes[at..])
 }
 
-/// The 4 bytes at a place, the lowest first.
+/// The 4 bytes at a place, little-endian.
 #[tactic(auto, unfolding(crate::specs::Elf::word_at))]
 pub(crate) fn word(bytes: &[u8], at: usize) -> u32
     requires { at + 4 ≤ length bytes.now }
@@ -48,11 +48,11 @@ impl ProgramHeader {
         ensures { result ≡ header_at bytes.now at }
     {
         ProgramHeader {
-            kind: word(bytes, at),
-            offset: word(bytes, at + 4),
-            address: word(bytes, at + 12),
-            file_size: word(bytes, at + 16),
-            memory_size: word(bytes, at + 20),
+            p_type: word(bytes, at),
+            p_offset: word(bytes, at + 4),
+            p_paddr: word(bytes, at + 12),
+            p_filesz: word(bytes, at + 16),
+            p_memsz: word(bytes, at + 20),
         }
     }
 }

@@ -69,8 +69,8 @@ fn one_change_gives_each_case(rt: HostRuntime) {
     assert_eq!(rt; case_with(24, 0x8000_0040), 12);
 }
 
-/// Two segments: the first fills eight bytes from 0x80000000 on, the second three from 0x80000004 on, of
-/// which two stand in the file.
+/// Two segments: the first fills eight bytes from 0x80000000 on, the second three from 0x80000004
+/// on, of which two stand in the file.
 const OVERLAP: [u8; 124] = [
     0x7F, b'E', b'L', b'F', 1, 1, 1, 0, 0, 0, 0, 0, 0, 0, 0, 0, // e_ident
     2, 0, 243, 0, 1, 0, 0, 0, // e_type, e_machine, e_version

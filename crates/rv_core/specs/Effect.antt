@@ -144,23 +144,6 @@ module _ {S : Type 0} (b : Acts S) (h : Regs) (c : CsrState) (s : S) (w : ℕ) w
   effect (AmoMinu rd rs1 rs2 aq rl) = amo rd (x rs1) (λ old. minu old (x rs2))
   effect (AmoMaxu rd rs1 rs2 aq rl) = amo rd (x rs1) (λ old. maxu old (x rs2))
 
--- a row that stores
-abbrev pub IsStoring : Instr → Type 0
-IsStoring (Sb rs1 rs2 imm) = Unit {0}
-IsStoring (Sh rs1 rs2 imm) = Unit {0}
-IsStoring (Sw rs1 rs2 imm) = Unit {0}
-IsStoring (Sc rd rs1 rs2 aq rl) = Unit {0}
-IsStoring (AmoSwap rd rs1 rs2 aq rl) = Unit {0}
-IsStoring (AmoAdd rd rs1 rs2 aq rl) = Unit {0}
-IsStoring (AmoXor rd rs1 rs2 aq rl) = Unit {0}
-IsStoring (AmoAnd rd rs1 rs2 aq rl) = Unit {0}
-IsStoring (AmoOr rd rs1 rs2 aq rl) = Unit {0}
-IsStoring (AmoMin rd rs1 rs2 aq rl) = Unit {0}
-IsStoring (AmoMax rd rs1 rs2 aq rl) = Unit {0}
-IsStoring (AmoMinu rd rs1 rs2 aq rl) = Unit {0}
-IsStoring (AmoMaxu rd rs1 rs2 aq rl) = Unit {0}
-IsStoring _ = ⊥
-
 -- where the outcome is a trap, each register, each CSR and the bus are as they were
 abbrev pub KeepsOnTrap : {S : Type 0} → Outcome → Regs → Regs → CsrState → CsrState → S → S → Type 0
 KeepsOnTrap Next h h' c c' s s' = Unit {0}

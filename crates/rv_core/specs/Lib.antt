@@ -5,3 +5,4 @@ pub mod Reach
 pub mod Effect
 pub mod Choices
 pub mod Fields
+pub mod Stores

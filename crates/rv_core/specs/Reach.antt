@@ -116,8 +116,7 @@ load_at b s addr width =
     else Err (Trap load_address_misaligned addr)
 
 -- the word for LR, SC or AMO, which reach only what can be fetched, or the trap with the cause for
--- a misaligned address or
--- the one for an address that can't be fetched
+-- a misaligned address or the one for an address that can't be fetched
 abbrev pub word_at : {S : Type 0} → Acts S → S → ℕ → ℕ → ℕ → Result ℕ Outcome
 word_at b s misaligned fault addr =
     if addr % 4 == 0

@@ -1,9 +1,10 @@
 //! Loads, stores and the atomic memory operations.
 
-ghost use Rattle.std.specs.Prelude.{◌≡◌, ℕ, ◌<◌, ◌⊎◌, IfOk};
+ghost use Rattle.std.specs.Prelude.{◌≡◌, ℕ, ◌<◌, ◌⊎◌, true, IfOk, IsErr};
 ghost use Rattle.rv_core.specs.Registers.{x_of};
 ghost use Rattle.rv_core.specs.Effect.{add_signed};
 ghost use Rattle.rv_core.specs.Reach.{hart_result, bus_result, write_loaded, load_reserved, load_at, word_at, word_to_load, word_to_modify, store_at, store_conditional, modify};
+ghost use Rattle.rv_core.specs.Stores.{MayRunOut, amo_request};
 ghost use Rattle.rv_core.specs.Choices.{apply, load_width, extend_loaded, store_width, store_part};
 
 use crate::arithmetic::{AluOp, extend_byte, extend_half, low_byte, low_half};
@@ -167,10 +168,13 @@ impl Hart {
     ) -> Result<Outcome, NoMemory>
         requires base { rs1 < 32 }
         requires source { rs2 < 32 }
-        ensures { let addr = add_signed (x_of self.old rs1) imm in
+        ensures done { let addr = add_signed (x_of self.old rs1) imm in
             let value = store_part kind (x_of self.old rs2) in
             IfOk result (λ o. bus_result o self.new bus.new
             ≡ store_at B.acts self.old bus.old addr (store_width kind) value) }
+        ensures memory { let addr = add_signed (x_of self.old rs1) imm in
+            let value = store_part kind (x_of self.old rs2) in
+            IsErr result → B.acts.wants bus.old addr (store_width kind) value ≡ true }
     {
         let addr = self.address(rs1, imm);
         let width = kind.width();
@@ -223,10 +227,11 @@ impl Hart {
         requires target { rd < 32 }
         requires base { rs1 < 32 }
         requires source { rs2 < 32 }
-        ensures { let addr = x_of self.old rs1 in
+        ensures done { let addr = x_of self.old rs1 in
             let word = word_to_modify B.acts bus.old addr in
             IfOk result (λ o. bus_result o self.new bus.new
             ≡ store_conditional B.acts self.old bus.old rd addr (x_of self.old rs2) word) }
+        ensures memory { IsErr result → B.acts.wants bus.old (x_of self.old rs1) 4 (x_of self.old rs2) ≡ true }
     {
         let addr = self.at(rs1);
         if let Err(trap) = word_at(bus, STORE_ADDRESS_MISALIGNED, STORE_ACCESS_FAULT, addr) {
@@ -256,10 +261,12 @@ impl Hart {
         requires target { rd < 32 }
         requires base { rs1 < 32 }
         requires source { rs2 < 32 }
-        ensures { let addr = x_of self.old rs1 in
+        ensures done { let addr = x_of self.old rs1 in
             let new : ℕ → ℕ = λ old. apply operation old (x_of self.old rs2) in
             IfOk result (λ o. bus_result o self.new bus.new
             ≡ modify B.acts self.old bus.old rd addr new (word_to_modify B.acts bus.old addr)) }
+        ensures memory { let new : ℕ → ℕ = λ old. apply operation old (x_of self.old rs2) in
+            IsErr result → MayRunOut B.acts bus.old (amo_request B.acts bus.old (x_of self.old rs1) new) }
     {
         let addr = self.at(rs1);
         match word_at(bus, STORE_ADDRESS_MISALIGNED, STORE_ACCESS_FAULT, addr) {

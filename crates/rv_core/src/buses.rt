@@ -1,6 +1,6 @@
 //! What a hart loads from and stores to.
 
-ghost use Rattle.std.specs.Prelude.{◌≡◌, ◌⊎◌, ℕ, true, false, Some, IsSome, IfOk, OnOk};
+ghost use Rattle.std.specs.Prelude.{◌≡◌, ◌⊎◌, ℕ, true, false, Some, IsSome, IfOk, OnOk, IsErr};
 ghost use Rattle.rv_core.specs.Acts.{Acts};
 
 use colo_base::NoMemory;
@@ -22,14 +22,14 @@ pub trait Bus {
         ensures value { result ≡ acts.loaded self.old addr width }
         ensures same { self.new ≡ self.old };
 
-    /// Stores the lowest `width` bytes of `value` from `addr` on, little-endian. `false` where
-    /// they
+    /// Stores the lowest `width` bytes of `value` from `addr` on, little-endian. `false` where they
     /// can't be stored, and nothing changes then. `width` is 1, 2 or 4. After `NoMemory` nothing is
     /// stated of the bus.
     fn store(&mut self, addr: u32, width: u32, value: u32) -> Result<bool, NoMemory>
         requires { (width ≡ 1) ⊎ ((width ≡ 2) ⊎ (width ≡ 4)) }
         ensures taken { IfOk result (λ taken. taken ≡ acts.stores self.old addr width value) }
-        ensures after { OnOk result (self.new ≡ acts.stored self.old addr width value) };
+        ensures after { OnOk result (self.new ≡ acts.stored self.old addr width value) }
+        ensures memory { IsErr result → acts.wants self.old addr width value ≡ true };
 
     // a store that is refused changes nothing
     ghost refused: { (s : Self) (a w v : ℕ) → acts.stores s a w v ≡ false → acts.stored s a w v ≡ s };

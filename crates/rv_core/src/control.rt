@@ -96,7 +96,9 @@ impl Hart {
             operand: self.at(rs1),
             writes: change.writes(rs1),
         };
-        self.access(access, instr, csrs)
+        // A copy, so that the decoded value itself never has an address.
+        let held = *instr;
+        self.access(access, &held, csrs)
     }
 
     /// A CSR instruction whose operand is a number.
@@ -124,7 +126,9 @@ impl Hart {
             operand: u32::from(imm),
             writes: change.writes(imm),
         };
-        self.access(access, instr, csrs)
+        // A copy, so that the decoded value itself never has an address.
+        let held = *instr;
+        self.access(access, &held, csrs)
     }
 
     /// A CSR instruction.

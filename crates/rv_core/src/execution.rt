@@ -1,11 +1,13 @@
 //! What each instruction does.
 
-ghost use Rattle.std.specs.Prelude.{◌≡◌, ℕ, ◌*◌, ◌^◌, ◌<◌, IfOk, IsErr};
+ghost use Rattle.std.specs.Prelude.{◌≡◌, ℕ, ◌*◌, ◌^◌, ◌<◌, IfOk, IsErr, OnOk, OnErr};
+ghost use Rattle.rv_traps.specs.CsrState.{KeepsLines};
+ghost use Rattle.rv_core.specs.Stores.{IsOneStore, MayRunOut, request_of};
 ghost use Rattle.rv_isa.specs.Table.{IsEncodable};
 ghost use Rattle.rv_isa.specs.Ranges.{IsWithin};
 ghost use Rattle.rv_core.specs.Registers.{x_of};
 ghost use Rattle.rv_core.specs.Arithmetic.{add, word_of};
-ghost use Rattle.rv_core.specs.Effect.{IsWordOf, IsStoring, KeepsOnTrap, effect, add_signed, clear_bit_0};
+ghost use Rattle.rv_core.specs.Effect.{IsWordOf, KeepsOnTrap, effect, add_signed, clear_bit_0};
 ghost use Rattle.rv_core.specs.Reach.{execution_result, hart_result, write_rd, jump, branch};
 ghost use Rattle.rv_core.specs.Choices.{apply, holds};
 
@@ -20,11 +22,11 @@ use rv_traps::Csrs;
 use rv_traps::cause::{BREAKPOINT, ENVIRONMENT_CALL_FROM_M_MODE};
 
 impl Hart {
-    /// Executes one instruction over a bus, exactly as its row of the instruction table says. Some
-    /// word
-    /// has to decode to it. `Trap` changes no register, no CSR and no memory. `NoMemory` comes only
-    /// from
-    /// the bus's `store`, and then nothing is said of the hart, the CSRs and the bus.
+    /// Executes one instruction over a bus, exactly as its row of the instruction table says. Some word has
+    /// to decode to it. `Trap` changes no register, no CSR and no memory. The bus afterwards is as before, or
+    /// as one store left it. No instruction changes the lines, the timer and the count of steps of the CSRs.
+    /// `NoMemory` comes only where the bus tells that the instruction's store may run out of memory. The CSRs
+    /// are then as before, and nothing is stated of the hart and the bus.
     #[tactic(auto, unfolding(crate::specs::Effect::effect))]
     #[inline(always)]
     pub fn execute<B: Bus>(
@@ -39,15 +41,18 @@ impl Hart {
             ≡ effect B.acts self.old csrs.old bus.old w instr.now) }
         ensures trap { IfOk result (λ o.
             KeepsOnTrap o self.old self.new csrs.old csrs.new bus.old bus.new) }
-        ensures memory { IsErr result → IsStoring instr.now }
+        ensures one_store { OnOk result (IsOneStore B.acts bus.old bus.new) }
+        ensures lines { OnOk result (KeepsLines csrs.old csrs.new) }
+        ensures memory { IsErr result → MayRunOut B.acts bus.old (request_of B.acts self.old bus.old instr.now) }
+        ensures csrs { OnErr result (csrs.new ≡ csrs.old) }
     {
-        self.perform(instr, csrs, bus)
+        self.execute_in_range(instr, csrs, bus)
     }
 
-    // The effect alone, with the ranges of the fields.
+    /// The effect alone, where each field is within its range.
     #[tactic(auto, unfolding(crate::specs::Effect::effect))]
     #[inline(always)]
-    fn perform<B: Bus>(
+    fn execute_in_range<B: Bus>(
         &mut self,
         instr: &Instr,
         csrs: &mut Csrs,
@@ -57,7 +62,8 @@ impl Hart {
         ensures effect { (w : ℕ) → IsWordOf w instr.now → IfOk result (λ o.
             execution_result o self.new csrs.new bus.new
             ≡ effect B.acts self.old csrs.old bus.old w instr.now) }
-        ensures memory { IsErr result → IsStoring instr.now }
+        ensures memory { IsErr result → MayRunOut B.acts bus.old (request_of B.acts self.old bus.old instr.now) }
+        ensures csrs { OnErr result (csrs.new ≡ csrs.old) }
     {
         match *instr {
             Instr::Lui { rd, imm } => Ok(self.put(rd, imm << 12)),

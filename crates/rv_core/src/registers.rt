@@ -17,8 +17,7 @@ pub enum Outcome {
 }
 
 /// The values of the machine's state that the hart holds. `x` is x1 to x31; `address` is the one
-/// that
-/// was reserved last.
+/// that was reserved last.
 #[derive(Clone, Copy, Debug, PartialEq, Eq)]
 pub struct HartFields {
     pub pc: u32,
@@ -30,8 +29,7 @@ pub struct HartFields {
 /// The registers of one hart: the program counter, x0 to x31, and the reservation of LR and SC.
 ///
 /// Contracts see it as a record `Regs`. At every moment x0 is 0 and the program counter is a
-/// multiple
-/// of 4.
+/// multiple of 4.
 #[derive(Drop)]
 pub struct Hart {
     pc: u32,
@@ -163,9 +161,8 @@ impl Hart {
         requires { rd < 32 }
         ensures { self.new ≡ write_register self.old rd value }
     {
-        if rd != 0 {
-            self.x[rd as usize] = value;
-        }
+        self.x[rd as usize] = value;
+        self.x[0] = 0;
     }
 
     /// Writes `value` to the register `rd`, but nothing to x0, and goes on with the next
@@ -199,8 +196,7 @@ impl Hart {
     }
 
     /// Jumps to `target`, and leaves the address of the next instruction in `rd`. A target that is
-    /// no multiple
-    /// of 4 traps.
+    /// no multiple of 4 traps.
     #[inline(always)]
     pub(crate) fn jump(&mut self, rd: u8, target: u32) -> Outcome
         requires { rd < 32 }

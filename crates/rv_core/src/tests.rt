@@ -1,8 +1,7 @@
 //! Every row at its edges over a bus of one word, reservations, every CSR and an interrupt, with
-//! values
-//! from the standard's tables or worked out by hand.
+//! values from the standard's tables or worked out by hand.
 
-ghost use Rattle.std.specs.Prelude.{◌≡◌, ◌==◌, Some, None, if◌then◌else◌};
+ghost use Rattle.std.specs.Prelude.{◌≡◌, ◌==◌, Some, None, false, if◌then◌else◌};
 
 use crate::{Bus, Hart, HartFields, Outcome};
 use colo_base::NoMemory;
@@ -29,6 +28,7 @@ impl Bus for OneWord {
       loaded = λ s a w. if a == 0x8000_0000 then Some s.value else None;
       stores = λ s a w v. a == 0x8000_0000;
       stored = λ s a w v. if a == 0x8000_0000 then record { value = v } else s;
+      wants = λ s a w v. false;
     } };
 
     ghost use Rattle.std.proofs.Common.{arith};

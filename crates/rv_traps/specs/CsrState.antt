@@ -1,12 +1,10 @@
 -- What the control and status registers of the one hart hold, with the timer and the lines that
--- raise interrupts.
--- RISC-V privileged, machine-level ISA, 3.1 (machine-level CSRs) and 3.2 (machine-level
--- memory-mapped registers).
+-- raise interrupts. RISC-V privileged, machine-level ISA, 3.1 (machine-level CSRs) and 3.2
+-- (machine-level memory-mapped registers).
 use Rattle.std.specs.Prelude.{◌≡◌, ℕ, ◌<◌, ◌+◌, ◌*◌, ◌/◌, ◌%◌, ◌^◌, Bool, false, if◌then◌else◌, ◌==◌, bit_and}
 
 -- msip is the software interrupt's line, mtime and mtimecmp the timer, steps the number of steps
--- that were made, and
--- external the line of the devices
+-- that were made, and external the line of the devices
 pub record CsrState : Type 0 where
   pub mstatus : ℕ
   pub mie : ℕ
@@ -60,3 +58,11 @@ pub record AreWords (mtvec mscratch mepc mcause mtval : ℕ) : Type 0 where
   pub address : mepc < 2 ^ 32
   pub cause : mcause < 2 ^ 32
   pub value : mtval < 2 ^ 32
+
+-- an instruction leaves the lines, the timer and the count of steps to others
+pub record KeepsLines (old new : CsrState) : Type 0 where
+  pub msip : new.msip ≡ old.msip
+  pub mtime : new.mtime ≡ old.mtime
+  pub mtimecmp : new.mtimecmp ≡ old.mtimecmp
+  pub steps : new.steps ≡ old.steps
+  pub external : new.external ≡ old.external

@@ -1,10 +1,10 @@
--- The CSRs by number: what each reads, and what a write leaves.
--- RISC-V privileged, CSR listing (2.2) and machine-level CSRs (3.1). This profile has the CSRs of
--- the table and no other.
+-- The CSRs by number: what each reads, and what a write leaves. RISC-V privileged, CSR listing
+-- (2.2) and machine-level CSRs (3.1). This profile has the CSRs of the table and no other.
 use Rattle.std.specs.Prelude.{ℕ, ◌+◌, ◌/◌, ◌%◌, ◌^◌, Bool, if◌then◌else◌, ◌==◌, nat_le, List, [], ◌∷◌, Option, Some, None, is_some}
 use Rattle.std.specs.List.{find}
 use Rattle.std.specs.Option.{option_map, option_map_or}
 use Rattle.std.specs.Prelude.{option_and_then}
+use Rattle.shared_definitions.specs.Halves.{low_half, high_half}
 use Rattle.rv_traps.specs.CsrState.{CsrState, mstatus_of, mie_of, mtvec_of, mepc_of}
 
 -- a row: the number, what is read, and what a write of a value leaves, None where a write is
@@ -25,16 +25,8 @@ mip_of c =
     + (if nat_le c.mtimecmp c.mtime then 0x80 else 0)
     + (if c.external then 0x800 else 0)
 
--- mcycle and minstret are the steps before this one
-abbrev pub low_half : ℕ → ℕ
-low_half n = n % 2 ^ 32
-
-abbrev pub high_half : ℕ → ℕ
-high_half n = n / 2 ^ 32
-
--- mstatus, misa, mie, mtvec; mscratch, mepc, mcause, mtval, mip; mcycle, minstret, mcycleh,
--- minstreth; mvendorid, marchid,
--- mimpid, mhartid
+-- mstatus, misa, mie, mtvec; mscratch, mepc, mcause, mtval, mip; mcycle, minstret, mcycleh, minstreth
+-- (the halves of the count of steps before this one); mvendorid, marchid, mimpid, mhartid
 unfoldable pub table : List Row
 table =
     record {

@@ -4,8 +4,7 @@ use Rattle.rv_traps.specs.declared.fields.CsrFields.{CsrFields}
 use Rattle.rv_traps.specs.CsrState.{CsrState, AreLegal}
 
 -- what registers can hold: mstatus is 0x1800 with bits 3 and 7 free, mie is within 0x888, bit 1 of
--- mtvec is 0, mepc is a
--- multiple of 4
+-- mtvec is 0, mepc is a multiple of 4
 abbrev pub IsLegal : CsrFields → Type 0
 IsLegal f = AreLegal f.mstatus f.mie f.mtvec f.mepc
 

@@ -1,6 +1,5 @@
--- The due interrupt, the entry of a trap and the return from it.
--- RISC-V privileged, 3.1.6.1 (privilege and interrupt-enable stack), 3.1.7 (mtvec), 3.1.9 (mip and
--- mie), 3.1.15 (mcause),
+-- The due interrupt, the entry of a trap and the return from it. RISC-V privileged, 3.1.6.1
+-- (privilege and interrupt-enable stack), 3.1.7 (mtvec), 3.1.9 (mip and mie), 3.1.15 (mcause),
 -- 3.3.2 (MRET).
 use Rattle.std.specs.Prelude.{ℕ, ◌+◌, ◌-◌, ◌*◌, ◌/◌, ◌%◌, ◌^◌, true, false, if◌then◌else◌, ◌&&◌, List, [], ◌∷◌, Option, None, bit_and}
 use Rattle.std.specs.List.{find}

@@ -3,7 +3,8 @@
 ghost use Rattle.std.specs.Prelude.{◌≡◌, ◌<◌, ◌%◌, ◌^◌, IfSome};
 ghost use Rattle.std.specs.Bool.{OnFalse};
 ghost use Rattle.rv_traps.specs.Fields.{IsLegal, fields_of, state_of};
-ghost use Rattle.rv_traps.specs.CsrTable.{read_csr, write_csr, is_writable, mip_of, low_half, high_half};
+ghost use Rattle.rv_traps.specs.CsrTable.{read_csr, write_csr, is_writable, mip_of};
+ghost use Rattle.shared_definitions.specs.Halves.{low_half, high_half};
 ghost use Rattle.rv_traps.specs.Trap.{pending_interrupt, enter_trap, trap_handler, return_from_trap, tick, count_step, boot_csrs};
 
 use crate::cause::{
@@ -20,64 +21,43 @@ use std::marker::Model;
 /// Contracts see it as a `CsrState`: the values of `CsrFields`, and what `external` set.
 #[derive(Drop)]
 pub struct Csrs {
-    mstatus: u32,
-    mie: u32,
-    mtvec: u32,
-    mscratch: u32,
-    mepc: u32,
-    mcause: u32,
-    mtval: u32,
-    msip: bool,
-    mtime: u64,
-    mtimecmp: u64,
-    steps: u64,
+    fields: CsrFields,
     external: bool,
 }
 
 impl Model for Csrs {
-    ghost use Rattle.rv_traps.specs.CsrState.{CsrState, AreLegal, AreWords};
+    ghost use Rattle.rv_traps.specs.CsrState.{CsrState, AreWords};
+    ghost use Rattle.rv_traps.specs.Fields.{IsLegal, state_of};
 
     ghost Value = { CsrState };
 
-    ghost view = { λ c. record {
-      mstatus = c.mstatus;
-      mie = c.mie;
-      mtvec = c.mtvec;
-      mscratch = c.mscratch;
-      mepc = c.mepc;
-      mcause = c.mcause;
-      mtval = c.mtval;
-      msip = c.msip;
-      mtime = c.mtime;
-      mtimecmp = c.mtimecmp;
-      steps = c.steps;
-      external = c.external;
-    } };
+    ghost view = { λ c. state_of c.fields c.external };
 
-    ghost invariant = { λ c. (AreLegal c.mstatus c.mie c.mtvec c.mepc)
-        × (AreWords c.mtvec c.mscratch c.mepc c.mcause c.mtval) };
+    ghost invariant = { λ c. IsLegal c.fields
+        × AreWords c.fields.mtvec c.fields.mscratch c.fields.mepc c.fields.mcause c.fields.mtval };
 }
 
 impl Csrs {
     /// The registers of a machine that starts (RISC-V privileged, 3.4): all 0 but `mstatus`, which
-    /// is 0x1800, and
-    /// `mtimecmp`, which is all ones.
+    /// is 0x1800, and `mtimecmp`, which is all ones.
     #[tactic(auto, unfolding(crate::specs::Trap::boot_csrs))]
     pub fn new() -> Csrs
         ensures { result ≡ boot_csrs }
     {
         Csrs {
-            mstatus: words::mstatus_with(false, false),
-            mie: 0,
-            mtvec: 0,
-            mscratch: 0,
-            mepc: 0,
-            mcause: 0,
-            mtval: 0,
-            msip: false,
-            mtime: 0,
-            mtimecmp: u64::MAX,
-            steps: 0,
+            fields: CsrFields {
+                mstatus: words::mstatus_with(false, false),
+                mie: 0,
+                mtvec: 0,
+                mscratch: 0,
+                mepc: 0,
+                mcause: 0,
+                mtval: 0,
+                msip: false,
+                mtime: 0,
+                mtimecmp: u64::MAX,
+                steps: 0,
+            },
             external: false,
         }
     }
@@ -90,14 +70,14 @@ impl Csrs {
         ensures small { IfSome result (λ v. v < 2 ^ 32) }
     {
         let value = match number {
-            MSTATUS => self.mstatus,
+            MSTATUS => self.fields.mstatus,
             MISA => RV32_WITH_A_I_M,
-            MIE => self.mie,
-            MTVEC => self.mtvec,
-            MSCRATCH => self.mscratch,
-            MEPC => self.mepc,
-            MCAUSE => self.mcause,
-            MTVAL => self.mtval,
+            MIE => self.fields.mie,
+            MTVEC => self.fields.mtvec,
+            MSCRATCH => self.fields.mscratch,
+            MEPC => self.fields.mepc,
+            MCAUSE => self.fields.mcause,
+            MTVAL => self.fields.mtval,
             MIP => self.mip(),
             MCYCLE | MINSTRET => self.steps_low(),
             MCYCLEH | MINSTRETH => self.steps_high(),
@@ -108,8 +88,8 @@ impl Csrs {
     }
 
     /// Writes CSR `number` (RISC-V privileged, 2.1 to 3.1). `false` exactly where there is no such
-    /// CSR or it is
-    /// read-only; nothing changes then. A write to `misa`, `mip` or a counter is ignored.
+    /// CSR or it is read-only; nothing changes then. A write to `misa`, `mip` or a counter is
+    /// ignored.
     #[tactic(auto, unfolding(crate::specs::CsrTable::is_writable, crate::specs::CsrTable::write_csr, crate::specs::CsrTable::write_at, crate::specs::CsrTable::row_at, crate::specs::CsrTable::table))]
     pub fn write(&mut self, number: u32, value: u32) -> bool
         ensures allowed { result ≡ is_writable number }
@@ -117,13 +97,13 @@ impl Csrs {
         ensures refused { OnFalse result (self.new ≡ self.old) }
     {
         match number {
-            MSTATUS => self.mstatus = words::mstatus_of(value),
-            MIE => self.mie = words::mie_of(value),
-            MTVEC => self.mtvec = words::mtvec_of(value),
-            MSCRATCH => self.mscratch = value,
-            MEPC => self.mepc = words::mepc_of(value),
-            MCAUSE => self.mcause = value,
-            MTVAL => self.mtval = value,
+            MSTATUS => self.fields.mstatus = words::mstatus_of(value),
+            MIE => self.fields.mie = words::mie_of(value),
+            MTVEC => self.fields.mtvec = words::mtvec_of(value),
+            MSCRATCH => self.fields.mscratch = value,
+            MEPC => self.fields.mepc = words::mepc_of(value),
+            MCAUSE => self.fields.mcause = value,
+            MTVAL => self.fields.mtval = value,
             MISA | MIP | MCYCLE | MINSTRET | MCYCLEH | MINSTRETH => {}
             _ => return false,
         }
@@ -131,8 +111,7 @@ impl Csrs {
     }
 
     /// Enters the trap of this cause and value at `pc`, a multiple of 4 (RISC-V privileged, 3.1.6.1
-    /// and 3.1.7). A cause
-    /// with bit 31 is an interrupt. The result is the new pc, a multiple of 4.
+    /// and 3.1.7). A cause with bit 31 is an interrupt. The result is the new pc, a multiple of 4.
     #[tactic(auto, unfolding(crate::specs::Trap::enter_trap, crate::specs::Trap::trap_handler))]
     pub fn enter(&mut self, cause: u32, value: u32, pc: u32) -> u32
         requires { pc % 4 ≡ 0 }
@@ -141,12 +120,12 @@ impl Csrs {
         ensures aligned { result % 4 ≡ 0 }
         ensures small { result < 2 ^ 32 }
     {
-        self.mstatus = words::mstatus_with(false, words::is_set(3, self.mstatus));
-        self.mepc = pc;
-        self.mcause = cause;
-        self.mtval = value;
-        let base = self.mtvec / 4 * 4;
-        if words::is_set(31, cause) && words::is_set(0, self.mtvec) {
+        self.fields.mstatus = words::mstatus_with(false, words::is_set(3, self.fields.mstatus));
+        self.fields.mepc = pc;
+        self.fields.mcause = cause;
+        self.fields.mtval = value;
+        let base = self.fields.mtvec / 4 * 4;
+        if words::is_set(31, cause) && words::is_set(0, self.fields.mtvec) {
             base.wrapping_add(cause.wrapping_mul(4))
         } else {
             base
@@ -162,8 +141,8 @@ impl Csrs {
         ensures aligned { result % 4 ≡ 0 }
         ensures small { result < 2 ^ 32 }
     {
-        self.mstatus = words::mstatus_with(words::is_set(7, self.mstatus), true);
-        self.mepc
+        self.fields.mstatus = words::mstatus_with(words::is_set(7, self.fields.mstatus), true);
+        self.fields.mepc
     }
 
     /// The cause of the due interrupt, with bit 31 set (RISC-V privileged, 3.1.9). `None` exactly
@@ -173,10 +152,13 @@ impl Csrs {
         ensures value { result ≡ pending_interrupt self.now }
         ensures small { IfSome result (λ v. v < 2 ^ 32) }
     {
-        if !words::is_set(3, self.mstatus) {
+        if !words::is_set(3, self.fields.mstatus) {
             return None;
         }
-        let shared = self.mie & self.mip();
+        let shared = self.fields.mie & self.mip();
+        if shared == 0 {
+            return None;
+        }
         if words::is_set(MACHINE_EXTERNAL_INTERRUPT, shared) {
             Some(INTERRUPT_BIT + MACHINE_EXTERNAL_INTERRUPT)
         } else if words::is_set(MACHINE_SOFTWARE_INTERRUPT, shared) {
@@ -192,7 +174,7 @@ impl Csrs {
     pub fn tick(&mut self, d: u64)
         ensures { self.new ≡ tick self.old d }
     {
-        self.mtime = self.mtime.wrapping_add(d);
+        self.fields.mtime = self.fields.mtime.wrapping_add(d);
     }
 
     /// Sets the devices' line, bit 11 of `mip` (RISC-V privileged, 3.1.9).
@@ -206,14 +188,14 @@ impl Csrs {
     pub fn msip(&self) -> bool
         ensures { result ≡ self.now.msip }
     {
-        self.msip
+        self.fields.msip
     }
 
     /// Sets the software interrupt's line.
     pub fn set_msip(&mut self, on: bool)
         ensures { self.new ≡ record self.old { msip = on } }
     {
-        self.msip = on;
+        self.fields.msip = on;
     }
 
     /// The time in microseconds from which the timer's interrupt is pending (RISC-V privileged,
@@ -221,21 +203,21 @@ impl Csrs {
     pub fn mtimecmp(&self) -> u64
         ensures { result ≡ self.now.mtimecmp }
     {
-        self.mtimecmp
+        self.fields.mtimecmp
     }
 
     /// Sets the time from which the timer's interrupt is pending.
     pub fn set_mtimecmp(&mut self, value: u64)
         ensures { self.new ≡ record self.old { mtimecmp = value } }
     {
-        self.mtimecmp = value;
+        self.fields.mtimecmp = value;
     }
 
     /// The time in microseconds (RISC-V privileged, 3.2.1).
     pub fn mtime(&self) -> u64
         ensures { result ≡ self.now.mtime }
     {
-        self.mtime
+        self.fields.mtime
     }
 
     /// Counts one step more, modulo 2^64, as `mcycle` and `minstret` read it (RISC-V privileged,
@@ -243,64 +225,39 @@ impl Csrs {
     pub fn count(&mut self)
         ensures { self.new ≡ count_step self.old }
     {
-        self.steps = self.steps.wrapping_add(1);
+        self.fields.steps = self.fields.steps.wrapping_add(1);
     }
 
     /// How many steps were counted.
     pub fn steps(&self) -> u64
         ensures { result ≡ self.now.steps }
     {
-        self.steps
+        self.fields.steps
     }
 
-    /// The values that the registers hold.
+    /// The values that the registers hold. With the devices' line they make the same registers again.
     pub fn fields(&self) -> CsrFields
         ensures value { result ≡ fields_of self.now }
         ensures legal { IsLegal result }
+        ensures back { state_of result self.now.external ≡ self.now }
     {
-        CsrFields {
-            mstatus: self.mstatus,
-            mie: self.mie,
-            mtvec: self.mtvec,
-            mscratch: self.mscratch,
-            mepc: self.mepc,
-            mcause: self.mcause,
-            mtval: self.mtval,
-            msip: self.msip,
-            mtime: self.mtime,
-            mtimecmp: self.mtimecmp,
-            steps: self.steps,
-        }
+        self.fields
     }
 
-    /// Sets the values that the registers hold, which `CsrFields::is_legal` tests. What `external`
-    /// set stays.
+    /// Sets the values that the registers hold, which `CsrFields::is_legal` tests. What `external` set stays.
     pub fn set_fields(&mut self, f: &CsrFields)
         requires { IsLegal f.now }
         ensures { self.new ≡ state_of f.now self.old.external }
     {
-        *self = Csrs::holding(*f, self.external);
+        self.hold(*f);
     }
 
-    /// Registers that hold these values, with the devices' line.
-    fn holding(f: CsrFields, external: bool) -> Csrs
+    /// Holds these values.
+    fn hold(&mut self, f: CsrFields)
         requires { IsLegal f }
-        ensures { result ≡ state_of f external }
+        ensures { self.new ≡ state_of f self.old.external }
     {
-        Csrs {
-            mstatus: f.mstatus,
-            mie: f.mie,
-            mtvec: f.mtvec,
-            mscratch: f.mscratch,
-            mepc: f.mepc,
-            mcause: f.mcause,
-            mtval: f.mtval,
-            msip: f.msip,
-            mtime: f.mtime,
-            mtimecmp: f.mtimecmp,
-            steps: f.steps,
-            external,
-        }
+        self.fields = f;
     }
 
     /// `mip`: bit 3 is the software interrupt's line, bit 7 says that the time has come, bit 11 is
@@ -308,8 +265,12 @@ impl Csrs {
     fn mip(&self) -> u32
         ensures { result ≡ mip_of self.now }
     {
-        let software = if self.msip { 0x8 } else { 0 };
-        let timer = if self.mtime >= self.mtimecmp { 0x80 } else { 0 };
+        let software = if self.fields.msip { 0x8 } else { 0 };
+        let timer = if self.fields.mtime >= self.fields.mtimecmp {
+            0x80
+        } else {
+            0
+        };
         let external = if self.external { 0x800 } else { 0 };
         software + timer + external
     }
@@ -318,13 +279,13 @@ impl Csrs {
     fn steps_low(&self) -> u32
         ensures { result ≡ low_half self.now.steps }
     {
-        (self.steps % 0x1_0000_0000) as u32
+        (self.fields.steps % 0x1_0000_0000) as u32
     }
 
     /// The high half of the count of steps.
     fn steps_high(&self) -> u32
         ensures { result ≡ high_half self.now.steps }
     {
-        (self.steps >> 32) as u32
+        (self.fields.steps >> 32) as u32
     }
 }

@@ -8,8 +8,7 @@ use crate::words;
 /// What a `Csrs` holds, but for the devices' line.
 ///
 /// `msip` is the software interrupt's line, `mtime` and `mtimecmp` are the timer's, and `steps` is
-/// the number of steps
-/// that were made.
+/// the number of steps that were made.
 #[derive(Clone, Copy, Debug, PartialEq, Eq)]
 pub struct CsrFields {
     pub mstatus: u32,
@@ -27,8 +26,7 @@ pub struct CsrFields {
 
 impl CsrFields {
     /// Whether registers can hold these values: `mstatus` is 0x1800 with bits 3 and 7 free, `mie`
-    /// is within 0x888,
-    /// bit 1 of `mtvec` is 0, and `mepc` is a multiple of 4.
+    /// is within 0x888, bit 1 of `mtvec` is 0, and `mepc` is a multiple of 4.
     pub fn is_legal(&self) -> bool
         ensures { IsTrue result ↔ IsLegal self.now }
     {

@@ -1,7 +1,7 @@
 use Rattle.std.proofs.Common.{◌∙◌, true, false, ap}
 use Rattle.std.proofs.lemmas.Result.{err_from_is_err_and}
 use Rattle.elf_load.specs.Boot.{can_start}
-use Rattle.elf_load.proofs.Cases.{case_of_file, case_of_segments, case_of_entry}
+use Rattle.elf_load.proofs.CaseLemmas.{case_of_file, case_of_segments, case_of_entry}
 use Rattle.elf_load.proofs.boot.check.Goals as goal
 
 pub returns-in_err-check_file-clause-first_case : goal.returns-in_err-check_file-clause-first_case

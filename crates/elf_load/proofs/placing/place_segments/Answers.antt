@@ -1,7 +1,7 @@
 use Rattle.std.proofs.Common.{length, arith, ◌∙◌}
 use Rattle.elf_load.specs.Boot.{overruns, lies_outside}
-use Rattle.elf_load.proofs.Table.{no_segment}
-use Rattle.elf_load.proofs.Place.{placed_loaded, placed_skipped}
+use Rattle.elf_load.proofs.TableLemmas.{no_segment}
+use Rattle.elf_load.proofs.PlaceLemmas.{place_loaded, place_skipped}
 use Rattle.elf_load.proofs.placing.place_segments.Goals as goal
 use Rattle.elf_load.proofs.placing.place_segments.Goals.{then-is_load, else-is_load}
 
@@ -17,8 +17,8 @@ place-requires-clause-inside c =
 
 pub loop-k-preserved : goal.loop-k-preserved
 loop-k-preserved c = elim c.if-is_load.branch [
-  | then-is_load w ↦ placed_loaded c.args.bytes.now c.args.memory.now c.loop-k.k c.header-segment.result c.loop-k.invariant c.header-segment.ensures
+  | then-is_load w ↦ place_loaded c.args.bytes.now c.args.memory.now c.loop-k.k c.header-segment.result c.loop-k.invariant c.header-segment.ensures
       w.if-is_load.ensures (w.memory-is ∙ w.place.ensures)
-  | else-is_load w ↦ placed_skipped c.args.bytes.now c.args.memory.now c.loop-k.k c.header-segment.result c.loop-k.invariant c.header-segment.ensures
+  | else-is_load w ↦ place_skipped c.args.bytes.now c.args.memory.now c.loop-k.k c.header-segment.result c.loop-k.invariant c.header-segment.ensures
       w.if-is_load.ensures w.memory-is
 ]

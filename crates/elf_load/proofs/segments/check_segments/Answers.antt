@@ -1,6 +1,6 @@
 use Rattle.std.proofs.Common.{◌||◌, ◌&&◌, ap, ◌∙◌, refl, arith, length}
 use Rattle.elf_load.specs.Boot.{overruns}
-use Rattle.elf_load.proofs.Table.{found_none, found_loaded, found_skipped, some_segment}
+use Rattle.elf_load.proofs.TableLemmas.{found_none, found_loaded, found_skipped, some_segment}
 use Rattle.elf_load.proofs.segments.check_segments.Goals as goal
 use Rattle.elf_load.proofs.segments.check_segments.Goals.{then-is_load+else-overruns, else-is_load}
 

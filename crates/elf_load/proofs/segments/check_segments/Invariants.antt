@@ -1,4 +1,4 @@
-use Rattle.elf_load.proofs.Table.{Found}
+use Rattle.elf_load.proofs.TableLemmas.{Found}
 use Rattle.elf_load.proofs.segments.check_segments.Given as goal
 
 abbrev pub invariant-loop-k : goal.invariant-loop-k

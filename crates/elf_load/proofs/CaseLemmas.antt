@@ -2,7 +2,8 @@
 use Rattle.std.proofs.Common.{◌≡◌, ℕ, Bool, true, false, cond, Option, Some, None, List, [], ◌∷◌, ◌++◌, length, refl, ◌∙◌}
 use Rattle.std.specs.List.{list_any, list_all}
 use Rattle.elf_load.specs.Elf.{segments, entry_of}
-use Rattle.elf_load.specs.Boot.{Case, first_of, file_cases, segment_cases, elf_case, overruns, lies_outside, is_empty, can_start}
+use Rattle.elf_load.specs.Boot.{file_cases, segment_cases, elf_case, overruns, lies_outside, is_empty, can_start}
+use Rattle.shared_definitions.specs.FirstOf.{Case, first_of}
 
 first_of_front : (xs ys : List Case) (n : ℕ) → first_of xs ≡ Some n → first_of (xs ++ ys) ≡ Some n
 first_of_front [] ys n e = cc
@@ -15,7 +16,8 @@ first_of_back ((m, true) ∷ xs) ys e = cc
 first_of_back ((m, false) ∷ xs) ys e = first_of_back xs ys e
 
 -- a case of the file header comes first
-pub case_of_file : (size : ℕ) (bytes : List ℕ) (n : ℕ) → first_of (file_cases bytes) ≡ Some n → elf_case size bytes ≡ Some n
+pub case_of_file : (size : ℕ) (bytes : List ℕ) (n : ℕ) → first_of (file_cases bytes) ≡ Some n
+    → elf_case size bytes ≡ Some n
 unfolding elf_case
 case_of_file size bytes n e = first_of_front (file_cases bytes) (segment_cases size bytes) n e
 
