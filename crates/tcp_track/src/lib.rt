@@ -1,0 +1,21 @@
+//! What a guest has sent on each connection: the line of its symbols, and what stands beside it,
+//! from all TCP segments that it sent.
+#![tactic(auto)]
+
+mod answers;
+mod keeping;
+mod lines;
+mod offsets;
+mod openings;
+mod steps;
+mod table;
+
+pub use answers::{Took, What};
+pub use keeping::KeptBytes;
+pub use lines::Line;
+pub use offsets::{OFFSET_BOUND, Offset};
+pub use openings::{Incarnation, Opening};
+pub use table::{Entry, Tracker};
+
+#[cfg(test)]
+mod tests;
