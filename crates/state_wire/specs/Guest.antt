@@ -50,7 +50,7 @@ sent_in g turn = g.kind.sent g.state turn
 abbrev pub after_turn : Meaning → GuestTurn → Meaning
 after_turn g turn = record { kind = g.kind; state = g.kind.next g.state turn; turned = (g.turned + 1) % 2 ^ 64 }
 
--- the guest with other state bytes, and with another page or sector
+-- the guest with other state bytes, and with another page or sector; without one of that number it is as it was
 abbrev pub with_bytes : Meaning → List ℕ → Meaning
 with_bytes g bytes = record g { state = record g.state { bytes = bytes } }
 

@@ -1,6 +1,6 @@
 //! The trait of a guest.
 
-ghost use Rattle.std.specs.Prelude.{◌≡◌, ◌≤◌, ◌<◌, ◌++◌, ℕ, List, IsTrue, OnOk, OnErr, IfSome, length, slice_get};
+ghost use Rattle.std.specs.Prelude.{◌≡◌, ◌≤◌, ◌++◌, ℕ, List, IsTrue, OnOk, OnErr, IfSome, length, slice_get};
 ghost use Rattle.std.specs.Io.{StartsWith};
 ghost use Rattle.std.specs.Option.{ForSome, option_copied};
 
@@ -89,15 +89,13 @@ pub trait Guest {
         ensures ok { OnOk result (meaning self.new ≡ with_bytes (meaning self.old) state.now) }
         ensures failed { OnErr result (KeepsKind (meaning self.old) (meaning self.new)) };
 
-    /// Makes these 4,096 bytes the page with number `k`, which must exist. All else stays.
+    /// Makes these 4,096 bytes the page with number `k`. All else stays. Where there is no such page nothing changes.
     fn load_page(&mut self, k: u32, bytes: &[u8])
-        requires place { k < (meaning self.old).kind.page_count }
-        requires size { length bytes.now ≡ 4096 }
+        requires { length bytes.now ≡ 4096 }
         ensures { meaning self.new ≡ with_page (meaning self.old) k bytes.now };
 
-    /// Makes these 512 bytes the sector with number `k`, which must exist. All else stays.
+    /// Makes these 512 bytes the sector with number `k`. All else stays. Where there is no such sector nothing changes.
     fn load_sector(&mut self, k: u32, bytes: &[u8])
-        requires place { k < (meaning self.old).kind.sector_count }
-        requires size { length bytes.now ≡ 512 }
+        requires { length bytes.now ≡ 512 }
         ensures { meaning self.new ≡ with_sector (meaning self.old) k bytes.now };
 }
