@@ -1,0 +1,4 @@
+pub mod ChainLemmas
+pub mod PartLemmas
+pub mod QueueLemmas
+pub mod RingLaw

@@ -1,0 +1,4 @@
+pub mod Chain
+pub mod Parts
+pub mod Queue
+pub mod Ring
