@@ -1,4 +1,4 @@
-pub mod Streams
-pub mod Keeping
-pub mod Reading
-pub mod Histories
+pub mod StreamLemmas
+pub mod RecordLemmas
+pub mod HoldingLemmas
+pub mod HistoryLemmas

@@ -1,14 +1,36 @@
 -- Reading whole records off the front of bytes.
-use Rattle.std.proofs.Common.{◌≡◌, ℕ, zero, suc, ◌+◌, ◌<◌, ◌≤◌, List, [], ◌∷◌, ◌++◌, length, take, drop, get_or, sym, ◌∙◌, ap, subst, arith, length-append, append_assoc}
+use Rattle.std.proofs.Common.{
+  ◌≡◌,
+  ℕ,
+  zero,
+  suc,
+  ◌+◌,
+  ◌<◌,
+  ◌≤◌,
+  List,
+  [],
+  ◌∷◌,
+  ◌++◌,
+  length,
+  take,
+  drop,
+  get_or,
+  sym,
+  ◌∙◌,
+  ap,
+  subst,
+  arith,
+  length-append,
+  append_assoc,
+}
 use Rattle.std.specs.Prelude.{All}
 use Rattle.std.specs.Int.{to_be_bytes, w32}
 use Rattle.std.proofs.lemmas.Nat.{be_bytes_4}
 use Rattle.std.proofs.lemmas.List.{take-append-drop, append-nil, get_or-drop, drop-drop, length-take-le}
 use Rattle.std.proofs.lemmas.List.Elements.{All-push, All-same}
 use Rattle.std.proofs.lemmas.Grind.{common_steps}
-use Rattle.sock_link.specs.Stream.{limit, record_of, stream_of, length_of}
-use Rattle.sock_link.specs.Cut.{frames_in}
-use Rattle.sock_link.proofs.Streams.{length-record_of, stream_of-append, frames_in-stream_of, length-frames_in}
+use Rattle.sock_link.specs.Stream.{limit, record_of, stream_of, length_of, frames_in, BeginsRecord}
+use Rattle.sock_link.proofs.StreamLemmas.{length-record_of, stream_of-append, frames_in-stream_of, length-frames_in}
 
 -- the frame of the record that begins these bytes
 abbrev pub frame_at : List ℕ → List ℕ
@@ -21,14 +43,16 @@ pub record IsWhole (bytes : List ℕ) : Type 0 where
   pub whole : 4 + length_of bytes ≤ length bytes
 
 -- what a look at the same bytes shows
-pub whole_at : (seen bytes : List ℕ) (size : ℕ) → seen ≡ bytes → (size ≡ 4 + length_of seen) × (4 ≤ length seen) × (length_of seen ≤ limit) × (size ≤ length seen) → IsWhole bytes × (size ≡ 4 + length_of bytes)
-whole_at seen bytes size e said =
+pub whole_at : (seen bytes : List ℕ) (size : ℕ) → seen ≡ bytes →
+    BeginsRecord seen size →
+    IsWhole bytes × (size ≡ 4 + length_of bytes)
+whole_at seen bytes size e begins =
     let P : List ℕ → Type 0 = λ xs. IsWhole xs × (size ≡ 4 + length_of xs) in
-    let enough : 4 + length_of seen ≤ length seen = omega (arith, said.0, said.3) in
-    let w : IsWhole seen = record { four = said.1; allowed = said.2; whole = enough } in
-    subst P e (w, said.0)
+    let enough : 4 + length_of seen ≤ length seen = omega (arith, begins.size_is, begins.within) in
+    let w : IsWhole seen = record { four = begins.four; allowed = begins.allowed; whole = enough } in
+    subst P e (w, begins.size_is)
 
--- its frame has the length that it says
+-- its frame has the length that it states
 pub length-frame_at : (bytes : List ℕ) → IsWhole bytes → length (frame_at bytes) ≡ length_of bytes
 length-frame_at bytes w = let few = w.whole in grind (arith, common_steps)
 
@@ -40,21 +64,26 @@ small_take (suc n) (x ∷ xs) h zero = h zero
 small_take (suc n) (x ∷ xs) h (suc i) = small_take n xs (λ j. h (suc j)) i
 
 -- the first four bytes spell the length of the frame
-four_spell : (bytes : List ℕ) → ((i : ℕ) → get_or bytes i 0 < 256) → (n : ℕ) → 4 ≤ length bytes → n ≡ length_of bytes → to_be_bytes w32 n ≡ take 4 bytes
+four_spell : (bytes : List ℕ) → ((i : ℕ) → get_or bytes i 0 < 256) → (n : ℕ) → 4 ≤ length bytes → n ≡ length_of bytes →
+    to_be_bytes w32 n ≡ take 4 bytes
 unfolding length_of
 four_spell bytes small n four e =
     be_bytes_4 (take 4 bytes) n (length-take-le 4 bytes four) (small_take 4 bytes small) e
 
 -- the bytes are the record and what follows it
-pub record_at : (bytes : List ℕ) → ((i : ℕ) → get_or bytes i 0 < 256) → IsWhole bytes → bytes ≡ record_of (frame_at bytes) ++ drop (4 + length_of bytes) bytes
+pub record_at : (bytes : List ℕ) → ((i : ℕ) → get_or bytes i 0 < 256) → IsWhole bytes →
+    bytes ≡ record_of (frame_at bytes) ++ drop (4 + length_of bytes) bytes
 unfolding record_of
 record_at bytes small w =
     let n : ℕ = length_of bytes in
     let f : List ℕ = frame_at bytes in
     let after : List ℕ = drop (4 + n) bytes in
-    let head : to_be_bytes w32 (length f) ≡ take 4 bytes = four_spell bytes small (length f) w.four (length-frame_at bytes w) in
-    let tail : f ++ after ≡ drop 4 bytes = ap (λ xs. f ++ xs) (sym (drop-drop n 4 bytes)) ∙ take-append-drop n (drop 4 bytes) in
-    sym (take-append-drop 4 bytes) ∙ ap (λ xs. take 4 bytes ++ xs) (sym tail) ∙ ap (λ xs. xs ++ (f ++ after)) (sym head) ∙ sym (append_assoc (to_be_bytes w32 (length f)) f after)
+    let head : to_be_bytes w32 (length f) ≡ take 4 bytes = four_spell bytes small (length f) w.four
+    (length-frame_at bytes w) in
+    let tail : f ++ after ≡ drop 4 bytes = ap (λ xs. f ++ xs) (sym (drop-drop n 4 bytes))
+    ∙ take-append-drop n (drop 4 bytes) in
+    sym (take-append-drop 4 bytes) ∙ ap (λ xs. take 4 bytes ++ xs) (sym tail)
+    ∙ ap (λ xs. xs ++ (f ++ after)) (sym head) ∙ sym (append_assoc (to_be_bytes w32 (length f)) f after)
 
 -- these frames and that many bytes were read off the front
 pub record IsRead (bytes : List ℕ) (frames : List (List ℕ)) (size : ℕ) : Type 0 where
@@ -63,7 +92,9 @@ pub record IsRead (bytes : List ℕ) (frames : List (List ℕ)) (size : ℕ) : T
   pub size_is : size ≡ length (stream_of frames)
 
 -- one record more is read
-pub read_more : (bytes : List ℕ) (count size : ℕ) → ((i : ℕ) → get_or bytes i 0 < 256) → IsRead bytes (frames_in count bytes) size → IsWhole (drop size bytes) → IsRead bytes (frames_in (count + 1) bytes) (size + (4 + length_of (drop size bytes)))
+pub read_more : (bytes : List ℕ) (count size : ℕ) → ((i : ℕ) → get_or bytes i 0 < 256) →
+    IsRead bytes (frames_in count bytes) size → IsWhole (drop size bytes) →
+    IsRead bytes (frames_in (count + 1) bytes) (size + (4 + length_of (drop size bytes)))
 read_more bytes count size small r w =
     let rest : List ℕ = drop size bytes in
     let f : List ℕ = frame_at rest in
@@ -72,7 +103,8 @@ read_more bytes count size small r w =
     let small_rest : (i : ℕ) → get_or rest i 0 < 256 = λ i. rw (get_or-drop size bytes i 0) (small (size + i)) in
     let at : rest ≡ record_of f ++ drop n rest = record_at rest small_rest w in
     let more : frames_in (count + 1) bytes ≡ fs ++ f ∷ [] =
-    ap (λ k. frames_in (k + 1) bytes) (sym (length-frames_in count bytes)) ∙ ap (frames_in (length fs + 1)) r.join ∙ frames_in-stream_of fs 1 rest r.allowed in
+    ap (λ k. frames_in (k + 1) bytes) (sym (length-frames_in count bytes)) ∙ ap (frames_in (length fs + 1)) r.join
+    ∙ frames_in-stream_of fs 1 rest r.allowed in
     let grown : stream_of (frames_in (count + 1) bytes) ≡ stream_of fs ++ record_of f =
     ap stream_of more ∙ stream_of-append fs (f ∷ []) ∙ ap (λ xs. stream_of fs ++ xs) (append-nil (record_of f)) in
     let after : drop n rest ≡ drop (size + n) bytes = drop-drop n size bytes in
@@ -81,7 +113,10 @@ read_more bytes count size small r w =
     let f_long : length f ≡ length_of rest = length-frame_at rest w in
     let f_small : length f ≤ limit = omega (arith, w.allowed, f_long) in
     record {
-      join = r.join ∙ ap (λ xs. stream_of fs ++ xs) at ∙ sym (append_assoc (stream_of fs) (record_of f) (drop n rest)) ∙ ap (λ xs. xs ++ drop n rest) (sym grown) ∙ ap (λ xs. stream_of (frames_in (count + 1) bytes) ++ xs) after;
-      allowed = All-same (λ g. length g ≤ limit) (frames_in (count + 1) bytes) (fs ++ f ∷ []) more (All-push (λ g. length g ≤ limit) fs f r.allowed f_small);
+      join = r.join ∙ ap (λ xs. stream_of fs ++ xs) at ∙ sym (append_assoc (stream_of fs) (record_of f)
+          (drop n rest)) ∙ ap (λ xs. xs ++ drop n rest) (sym grown)
+          ∙ ap (λ xs. stream_of (frames_in (count + 1) bytes) ++ xs) after;
+      allowed = All-same (λ g. length g ≤ limit) (frames_in (count + 1) bytes) (fs
+          ++ f ∷ []) more (All-push (λ g. length g ≤ limit) fs f r.allowed f_small);
       size_is = omega (arith, r.size_is, ap length grown, long, f_long);
     }

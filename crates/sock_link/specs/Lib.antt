@@ -1,6 +1,4 @@
 pub mod Stream
-pub mod Cut
-pub mod Kept
-pub mod Held
 pub mod Unframed
+pub mod Holding
 pub mod Laws

@@ -8,8 +8,8 @@ use std::marker::Model;
 
 /// Bytes that wait to be read. A contract sees those that are left.
 ///
-/// Reading moves nothing. What was read is thrown away only when bytes are added and it is at least as much as what is
-/// left, so that no byte costs more than one move for each byte that was read.
+/// Reading moves nothing. What was read is thrown away only when bytes are added and it is at least
+/// as much as what is left, so that no byte costs more than one move for each byte that was read.
 #[derive(Drop)]
 pub struct Backlog {
     bytes: Vec<u8>,
@@ -44,7 +44,7 @@ impl Backlog {
         &self.bytes[self.read..]
     }
 
-    /// The bytes that wait behind the first `at`.
+    /// The bytes that wait after the first `at`.
     pub fn after(&self, at: usize) -> &[u8]
         requires { at ≤ length self.now }
         ensures value { result.now ≡ drop at self.now }

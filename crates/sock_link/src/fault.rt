@@ -5,7 +5,8 @@ use colo_base::NoMemory;
 /// Why a piece of a stream was not taken as it should.
 #[derive(Clone, Copy, Debug, PartialEq, Eq)]
 pub enum LinkFault {
-    /// The record that begins at byte `at` of the stream, counted from 0, says that it is longer than 69,632 bytes.
+    /// The record that begins at byte `at` of the stream, counted from 0, states a length above
+    /// 69,632 bytes.
     TooLong {
         /// Where the record begins.
         at: u64,

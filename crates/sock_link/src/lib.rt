@@ -1,4 +1,5 @@
-//! Frames of a byte stream, as QEMU's stream sockets carry them: four bytes of length, big-endian, before each frame.
+//! Frames of a byte stream, as QEMU's stream sockets carry them: four bytes of length, big-endian,
+//! before each frame.
 #![tactic(auto)]
 
 mod backlog;
@@ -10,7 +11,7 @@ mod unframer;
 
 pub use fault::LinkFault;
 pub use frame::frame_into;
-pub use law::{keeps_the_stream, reads_back, reads_one_way};
+pub use law::{keeps_the_stream, reads_back, reads_one_way, stays_stuck, tells_the_rest};
 pub use unframer::Unframer;
 
 #[cfg(test)]

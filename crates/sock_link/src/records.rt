@@ -1,10 +1,9 @@
 //! The whole records at the front of bytes.
 
 ghost use Rattle.std.specs.Prelude.{◌≡◌, ◌≤◌, length, drop};
-ghost use Rattle.sock_link.specs.Stream.{stream_of, IsSplit};
-ghost use Rattle.sock_link.specs.Cut.{frames_in};
+ghost use Rattle.sock_link.specs.Stream.{stream_of, frames_in, IsSplit};
 
-use crate::frame::{bytes_from, whole_record};
+use crate::frame::whole_record;
 
 /// Whole records one after another.
 #[derive(Clone, Copy)]
@@ -15,16 +14,17 @@ pub struct Records {
     pub count: usize,
 }
 
-/// The whole records at the front of bytes: behind them none with an allowed length begins.
+/// The whole records at the front of bytes: after them none with an allowed length begins.
 pub fn whole_records(bytes: &[u8]) -> Records
-    ensures split { IsSplit bytes.now (frames_in result.count bytes.now) (drop result.size bytes.now) }
+    ensures split { IsSplit bytes.now (frames_in result.count bytes.now)
+        (drop result.size bytes.now) }
     ensures size { result.size ≡ length (stream_of (frames_in result.count bytes.now)) }
     ensures within { result.size ≤ length bytes.now }
     ensures few { result.count ≤ result.size }
 {
     let mut size = 0;
     let mut count = 0;
-    while let Some(record) = whole_record(bytes_from(bytes, size)) {
+    while let Some(record) = whole_record(&bytes[size..]) {
         size += record;
         count += 1;
     }

@@ -18,22 +18,30 @@ fn next_length(unframer: &mut Unframer) -> Result<Option<usize>, Fail> {
     Ok(frame.map(|frame| frame.len()))
 }
 
-/// A record of `count` bytes, each a 5.
-fn fives(alloc: Global, count: usize) -> Result<Vec<u8>, Fail> {
+/// The bytes 0, 1, 2 and so on up to 250, and from 0 again.
+fn counting(alloc: Global, count: u16) -> Result<Vec<u8>, Fail> {
+    let mut bytes = Vec::new(alloc);
+    for k in 0..count {
+        bytes.push((k % 251) as u8)?;
+    }
+    Ok(bytes)
+}
+
+/// A record of a short frame.
+fn record(alloc: Global, frame: &[u8]) -> Result<Vec<u8>, Fail> {
     let mut stream = Vec::new(alloc);
-    let frame = vec![in alloc; 5u8; count.min(2000)]?;
     if frame.len() > 2000 {
         return Err(Fail::from("long"));
     }
-    frame_into(frame.as_slice(), &mut stream)?;
+    frame_into(frame, &mut stream)?;
     Ok(stream)
 }
 
-/// A record of 60 bytes and two bytes of the next.
+/// A record of 60 bytes and two bytes of the next, whole and byte by byte.
 #[test]
-fn stops_within_a_record(rt: HostRuntime) -> Result<(), Fail> {
-    let mut stream = fives(rt.alloc(), 60)?;
-    assert_eq!(rt; stream.len(), 64);
+fn a_stream_gives_the_same_frame_however_it_is_cut(rt: HostRuntime) -> Result<(), Fail> {
+    let sixty = counting(rt.alloc(), 60)?;
+    let mut stream = record(rt.alloc(), sixty.as_slice())?;
     stream.extend_from_slice(&[0, 0])?;
     let mut whole = Unframer::new(rt.alloc());
     feed(&mut whole, stream.as_slice())?;
@@ -41,13 +49,18 @@ fn stops_within_a_record(rt: HostRuntime) -> Result<(), Fail> {
     for byte in stream.as_slice() {
         feed(&mut cut, &[*byte])?;
     }
-    assert_eq!(rt; whole.fed(), 66);
-    assert_eq!(rt; cut.fed(), 66);
-    assert_eq!(rt; whole.place(), 64);
-    assert_eq!(rt; cut.place(), 64);
-    assert!(rt; !whole.at_boundary());
-    assert_eq!(rt; next_length(&mut whole)?, Some(60));
-    assert_eq!(rt; next_length(&mut cut)?, Some(60));
+    assert_eq!(rt;
+        (whole.fed(), whole.place(), whole.at_boundary()),
+        (66, 64, false)
+    );
+    assert_eq!(rt;
+        (cut.fed(), cut.place(), cut.at_boundary()),
+        (66, 64, false)
+    );
+    let of_whole = whole.next_frame()?.ok_or("whole")?;
+    let of_cut = cut.next_frame()?.ok_or("cut")?;
+    assert_eq!(rt; of_whole.as_slice(), sixty.as_slice());
+    assert_eq!(rt; of_cut.as_slice(), sixty.as_slice());
     assert_eq!(rt; next_length(&mut whole)?, None);
     assert_eq!(rt; next_length(&mut cut)?, None);
     Ok(())
@@ -63,13 +76,15 @@ fn takes_lengths_to_the_limit(rt: HostRuntime) -> Result<(), Fail> {
     let mut at = Unframer::new(rt.alloc());
     assert_eq!(rt; feed(&mut at, &[0, 1, 16, 0]), Ok(()));
     let mut large = Unframer::new(rt.alloc());
-    feed(&mut large, fives(rt.alloc(), 1600)?.as_slice())?;
+    let frame = counting(rt.alloc(), 1600)?;
+    feed(&mut large, record(rt.alloc(), frame.as_slice())?.as_slice())?;
     assert!(rt; large.at_boundary());
     assert_eq!(rt; next_length(&mut large)?, Some(1600));
     Ok(())
 }
 
-/// A frame of one byte, one of none, and then a length above the limit, the stream cut at each byte of the lengths.
+/// A frame of one byte, one of none, and then a length above the limit, the stream cut within each
+/// length.
 #[test]
 fn gives_the_frames_before_a_long_one(rt: HostRuntime) -> Result<(), Fail> {
     let mut unframer = Unframer::new(rt.alloc());

@@ -1,6 +1,6 @@
 //! Cuts a byte stream into frames, however it came.
 
-ghost use Rattle.std.specs.Prelude.{◌≡◌, ◌+◌, ◌^◌, ◌<◌, ◌↔◌, [], ◌∷◌, true, false, IsTrue, OnOk, OnErr, IfOk, IfErr, option_map, length};
+ghost use Rattle.std.specs.Prelude.{◌≡◌, ◌+◌, ◌^◌, ◌<◌, ◌↔◌, [], true, false, IsTrue, OnOk, OnErr, IfOk, IfErr, option_map, length};
 ghost use Rattle.sock_link.specs.Stream.{is_too_long};
 ghost use Rattle.sock_link.specs.Unframed.{nothing_fed, Feeds, FeedEnds, Gives};
 
@@ -12,10 +12,12 @@ use colo_base::NoMemory;
 use std::alloc::Global;
 use std::marker::Model;
 
-/// Cuts a byte stream into frames. Pieces of the stream go in, in whatever cutting, and its frames come out in order.
+/// Cuts a byte stream into frames. Pieces of the stream go in, in whatever cutting, and its frames
+/// come out in order.
 ///
-/// A contract sees the whole frames that wait, what has come of the unfinished record, where that one begins, and how
-/// many bytes came. The work is linear in the bytes: a frame is copied once, and nothing is moved for it.
+/// A contract sees the whole frames that wait, what has come of the unfinished record, where that
+/// one begins, and how many bytes came. The work is linear in the bytes: each is copied in, moved
+/// to the front of the memory at most once, and copied out.
 #[derive(Drop)]
 pub struct Unframer {
     backlog: Backlog,
@@ -26,21 +28,15 @@ pub struct Unframer {
 }
 
 impl Model for Unframer {
-    ghost use Rattle.std.specs.Prelude.{drop};
-    ghost use Rattle.sock_link.specs.Cut.{frames_in};
-    ghost use Rattle.sock_link.specs.Held.{IsHeld};
     ghost use Rattle.sock_link.specs.Unframed.{Unframed};
 
     ghost Value = { Unframed };
 
-    ghost view = { λ u. record {
-      frames = frames_in u.count u.backlog;
-      part = drop u.whole u.backlog;
-      place = u.place;
-      fed = u.fed;
-    } };
+    ghost use Rattle.sock_link.specs.Holding.{unframed_of, IsHeld};
 
-    ghost invariant = { λ u. IsHeld u.backlog u.whole u.count u.place u.fed };
+    ghost view = { unframed_of };
+
+    ghost invariant = { IsHeld };
 }
 
 impl Unframer {
@@ -80,9 +76,10 @@ impl Unframer {
 
     /// Takes the next piece of the stream.
     ///
-    /// Those fed and the piece must stay below 2^63 bytes. `TooLong` comes exactly where the stream so far holds a whole
-    /// length above 69,632, with the place where that record begins; from then on it comes again, and the frames before
-    /// it are still given. After `NoMemory` the unframer is as it was.
+    /// Those fed and the piece must stay below 2^63 bytes. `TooLong` comes exactly where the stream
+    /// so far holds a whole length above 69,632, with the place where that record begins; from then
+    /// on it comes again, and the frames before it are still given. After `NoMemory` the unframer
+    /// is as it was.
     pub fn feed(&mut self, piece: &[u8]) -> Result<(), LinkFault>
         requires { self.old.fed + length piece.now < 2 ^ 63 }
         ensures ok { OnOk result (Feeds self.old self.new piece.now) }
@@ -99,9 +96,11 @@ impl Unframer {
         Ok(())
     }
 
-    /// Gives the oldest frame that waits. `None` exactly where no whole frame is left. After `NoMemory` no frame is lost.
+    /// Gives the oldest frame that waits. `None` exactly where no whole frame is left. After
+    /// `NoMemory` no frame is lost.
     pub fn next_frame(&mut self) -> Result<Option<Vec<u8>>, NoMemory>
-        ensures ok { IfOk result (λ given. Gives self.old self.new (option_map (λ frame. frame.items) given)) }
+        ensures ok { IfOk result (λ given.
+            Gives self.old self.new (option_map (λ frame. frame.items) given)) }
         ensures err { OnErr result (self.new ≡ self.old) }
     {
         let bytes = self.backlog.as_slice();
@@ -122,7 +121,7 @@ impl Unframer {
         is_too_long(self.backlog.after(self.whole))
     }
 
-    /// Counts a piece behind a length above the limit.
+    /// Counts a piece after a length above the limit.
     fn pass_by(&mut self, piece: &[u8])
         requires stuck { is_too_long self.old.part ≡ true }
         requires fits { self.old.fed + length piece.now < 2 ^ 63 }

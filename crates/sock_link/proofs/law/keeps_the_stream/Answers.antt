@@ -1,4 +1,4 @@
-use Rattle.sock_link.proofs.Histories.{begins_stream, keeps_stream, gives_next}
+use Rattle.sock_link.proofs.HistoryLemmas.{begins_stream, keeps_stream, gives_next}
 use Rattle.sock_link.proofs.law.keeps_the_stream.Goals as goal
 
 pub returns-clause-begins : goal.returns-clause-begins

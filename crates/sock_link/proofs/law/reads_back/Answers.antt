@@ -1,4 +1,4 @@
-use Rattle.sock_link.proofs.Histories.{reads_back, adds_record}
+use Rattle.sock_link.proofs.HistoryLemmas.{reads_back, adds_record}
 use Rattle.sock_link.proofs.law.reads_back.Goals as goal
 
 pub returns-clause-reads : goal.returns-clause-reads

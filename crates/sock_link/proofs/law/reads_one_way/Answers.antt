@@ -1,4 +1,4 @@
-use Rattle.sock_link.proofs.Histories.{is_read_once}
+use Rattle.sock_link.proofs.HistoryLemmas.{is_read_once}
 use Rattle.sock_link.proofs.law.reads_one_way.Goals as goal
 
 pub returns : goal.returns

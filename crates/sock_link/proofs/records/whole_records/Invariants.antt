@@ -1,6 +1,6 @@
 use Rattle.std.proofs.Common.{◌-◌, ◌≤◌, length}
-use Rattle.sock_link.specs.Cut.{frames_in}
-use Rattle.sock_link.proofs.Reading.{IsRead}
+use Rattle.sock_link.specs.Stream.{frames_in}
+use Rattle.sock_link.proofs.RecordLemmas.{IsRead}
 use Rattle.sock_link.proofs.records.whole_records.Given as goal
 
 abbrev pub invariant-loop-record : goal.invariant-loop-record
