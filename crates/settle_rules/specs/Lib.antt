@@ -1,0 +1,9 @@
+pub mod Numbers
+pub mod Progress
+pub mod Pieces
+pub mod Release
+pub mod Matching
+pub mod OwnFrames
+pub mod Settle
+pub mod Causes
+pub mod Survive
