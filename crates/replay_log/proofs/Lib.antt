@@ -1,0 +1,13 @@
+pub mod ApartLemmas
+pub mod CaseLemmas
+pub mod FormLemmas
+pub mod FoundLemmas
+pub mod GatheringLemmas
+pub mod ItemLemmas
+pub mod LawLemmas
+pub mod PlaceLemmas
+pub mod ReadingLemmas
+pub mod RowLemmas
+pub mod SpellingLemmas
+pub mod TextLemmas
+pub mod WritingLemmas

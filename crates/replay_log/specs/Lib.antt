@@ -1,0 +1,9 @@
+pub mod Keywords
+pub mod Forms
+pub mod Places
+pub mod Rows
+pub mod Cases
+pub mod Items
+pub mod Texts
+pub mod Making
+pub mod Gathering
