@@ -1,0 +1,4 @@
+pub mod Device
+pub mod Fields
+pub mod Lending
+pub mod Registers
