@@ -1,2 +1,11 @@
+pub mod AckedLemmas
 pub mod CommitLemmas
+pub mod ElementLemmas
 pub mod GrowthLemmas
+pub mod OrderLemmas
+pub mod ResetLemmas
+pub mod RestartLemmas
+pub mod StandingLemmas
+pub mod SymbolLemmas
+pub mod TupleLemmas
+pub mod TyingLemmas

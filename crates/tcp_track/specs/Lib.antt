@@ -6,3 +6,4 @@ pub mod Restarts
 pub mod LineFields
 pub mod LineInside
 pub mod Tracking
+pub mod Laws

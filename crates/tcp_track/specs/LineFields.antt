@@ -24,7 +24,18 @@ pub record LineFields : Type 0 where
   pub mac : List ℕ
 
 abbrev pub no_fields : LineFields
-no_fields = record { opening = None; base = 0; bytes = []; fin = false; reset = false; refused = None; acked = 0; window = 0; mss = 0; mac = no_mac }
+no_fields = record {
+  opening = None;
+  base = 0;
+  bytes = [];
+  fin = false;
+  reset = false;
+  refused = None;
+  acked = 0;
+  window = 0;
+  mss = 0;
+  mac = no_mac;
+}
 
 -- the offset after the last byte
 abbrev pub bytes_end : LineFields → ℕ
@@ -70,7 +81,7 @@ fields_opened l s = record {
   fin = false;
   reset = false;
   refused = l.refused;
-  acked = 1;
+  acked = acked_after 0 (opening_in s).client s;
   window = s.window;
   mss = mss_of s.options;
   mac = s.dst_mac;
@@ -100,7 +111,10 @@ grown l from s = record l {
 }
 
 abbrev pub fields_acked : LineFields → Opening → TcpFields → LineFields
-fields_acked l o s = record l { acked = acked_after l.acked o.client s; window = window_after l.window s }
+fields_acked l o s = record l {
+  acked = acked_after l.acked o.client s;
+  window = window_after l.window s;
+}
 
 abbrev pub fields_with : LineFields → Option Opening → TcpFields → LineFields
 fields_with l None s = l

@@ -35,7 +35,17 @@ abbrev pub no_mac : List ℕ
 no_mac = 0 ∷ 0 ∷ 0 ∷ 0 ∷ 0 ∷ 0 ∷ []
 
 abbrev pub no_line : Line
-no_line = record { opening = None; symbols = []; base = 0; acked = 0; window = 0; mss = 0; mac = no_mac; reset = false; refused = None }
+no_line = record {
+  opening = None;
+  symbols = [];
+  base = 0;
+  acked = 0;
+  window = 0;
+  mss = 0;
+  mac = no_mac;
+  reset = false;
+  refused = None;
+}
 
 -- a FIN is among the symbols
 abbrev pub has_ended : List Symbol → Bool
@@ -47,7 +57,7 @@ opened_line l s = record {
   opening = Some (opening_in s);
   symbols = syn ∷ [];
   base = 0;
-  acked = 1;
+  acked = acked_after 0 (opening_in s).client s;
   window = s.window;
   mss = mss_of s.options;
   mac = s.dst_mac;

@@ -91,12 +91,18 @@ pub record Acking : Type 0 where
   pub opening : Option Opening
   pub acked : ℕ
 
+-- a segment without RST on the tuple, while the opening is of the client
+abbrev pub acks_here : Tuple → ℕ → Option Opening → TcpFields → Bool
+acks_here t client current s =
+    same_tuple (tuple_of s) t && (not (has_rst s.flags) && is_of_client current client)
+
 abbrev pub acking_after : Tuple → ℕ → Acking → TcpFields → Acking
-acking_after t client a s = let current = opening_after t a.opening s in record {
-  opening = current;
-  acked = if same_tuple (tuple_of s) t && (not
-      (has_rst s.flags) && is_of_client current client) then acked_after a.acked client s else a.acked;
-}
+acking_after t client a s =
+    let current = opening_after t a.opening s in
+    record {
+      opening = current;
+      acked = if acks_here t client current s then acked_after a.acked client s else a.acked;
+    }
 
 -- how far the sent segments acknowledge a client's connection, from its SYN on; 0 where none does
 unfoldable pub acked_in : List TcpFields → Tuple → ℕ → ℕ

@@ -4,6 +4,7 @@
 
 mod answers;
 mod keeping;
+pub mod law;
 mod lines;
 mod offsets;
 mod openings;

@@ -145,12 +145,13 @@ impl Line {
     fn open(&mut self, segment: &TcpView)
         ensures { self.new ≡ fields_opened self.old segment.now }
     {
-        self.opening = Some(opening_in(segment));
+        let opening = opening_in(segment);
+        self.opening = Some(opening);
         self.base = 0;
         self.bytes.clear();
         self.fin = false;
         self.reset = false;
-        self.acked = 1;
+        self.acked = acked_after(0, opening.client, segment);
         self.window = segment.window();
         self.mss = mss(segment.options());
         self.mac = mac_of(segment.dst_mac());
