@@ -1,0 +1,178 @@
+-- What each event may be: a property of every event's outcome is shown case by case.
+use Rattle.std.proofs.Common.{◌≡◌, ℕ, ◌||◌, if◌then◌else◌, not, ◌&&◌, nat_le, Bool, true, false, List, [], ◌∷◌, Option, None, Some, refl, slice_get, length}
+use Rattle.std.proofs.lemmas.Bool.{cond_both, or_parts, and_parts, not-true}
+use Rattle.colo_base.specs.declared.fault.Cause.TheVariants.{Asked}
+use Rattle.inet_frame.specs.Counted.{tcp_in}
+use Rattle.settle_rules.specs.Release.{reply}
+use Rattle.state_wire.specs.Guest.{Kind}
+use Rattle.pair_theorem.specs.Checkpoint.{capture, next_capture}
+use Rattle.pair_theorem.specs.ClientFrames.{Entry, frame_entry, answer_entry, drop_entry, entry_of, Waiting, inbox_room, trims_by}
+use Rattle.pair_theorem.specs.Events.{accept_by, ask_event, client_entry, client_event, deliver_down, deliver_up, is_ack, look_at, numbers_of, outcome_of, outcome_with, passed_frame, primary_event, primary_hears, primary_survives, primary_turns, report_event, secondary_event, secondary_hears, secondary_survives, secondary_turns, survivor_turns, take_frame, taking_inbox, waiting_of}
+use Rattle.pair_theorem.specs.GuestTurns.{turn_from}
+use Rattle.replay_log.specs.declared.lines.Line.{Line}
+use Rattle.replay_log.specs.declared.lines.Line.TheVariants.{Primary, Secondary, Client, ToSecondary, ToPrimary, StopPrimary, StopSecondary, Report, Ask}
+use Rattle.replay_log.specs.declared.records.Answer.TheVariants.{Nothing, Accepted, Arp, Dropped, Full, Lost, HeardBack, Zero, Reported}
+use Rattle.replay_log.specs.declared.records.Mark.TheVariants.{Captured}
+use Rattle.pair_theorem.specs.Messages.{Message, kind_of}
+use Rattle.pair_theorem.specs.Past.{Outcome, Past, is_primary_stop, is_secondary_stop, primary_stop, secondary_stop, quietly, secondary_releases, silently, step_with}
+
+-- a claim on the past before an event, its line, and its outcome
+abbrev pub Claim : Type 1
+Claim = Past → Line → Outcome → Type 0
+
+abbrev pub accepted_outcome : Past → Waiting → Outcome
+accepted_outcome past w =
+    silently (accept_by (is_primary_stop past.stop) past w (trims_by w)) Client (Accepted past.next w.seen w.trim 0)
+    None
+
+abbrev pub asked_outcome : Past → Outcome
+asked_outcome past = record {
+  after = capture past;
+  step = step_with Ask Zero (Captured (next_capture past) Asked ∷ []) None [];
+  cause = Some Asked;
+  agreed = [];
+}
+
+abbrev pub primary_made : Kind → Past → ℕ → Bool → ℕ → ℕ → Outcome
+primary_made kind past d i b n =
+    primary_turns past (Primary d i b n) (turn_from kind past.primary past.primary_inbox i (numbers_of d b n))
+
+abbrev pub secondary_made : Kind → Past → ℕ → Bool → ℕ → ℕ → Outcome
+secondary_made kind past d i b n =
+    secondary_turns past (Secondary d i b n) (turn_from kind past.secondary past.secondary_inbox i (numbers_of d b n))
+
+abbrev pub survivor_made : Kind → Past → ℕ → Bool → ℕ → ℕ → Outcome
+survivor_made kind past d i b n =
+    survivor_turns past (Secondary d i b n) (turn_from kind past.secondary past.secondary_inbox i (numbers_of d b n))
+
+pub record Cases (kind : Kind) (P : Claim) : Type 0 where
+  pub idle : (past : Past) (x : Line) → P past x (silently past x Nothing None)
+  pub primary_turn : (past : Past) (d : ℕ) (i : Bool) (b n : ℕ) → is_primary_stop past.stop ≡ false
+      → past.awaits_ack ≡ false → P past (Primary d i b n) (primary_made kind past d i b n)
+  pub secondary_turn : (past : Past) (d : ℕ) (i : Bool) (b n : ℕ) → is_secondary_stop past.stop ≡ false
+      → secondary_releases past ≡ false → P past (Secondary d i b n) (secondary_made kind past d i b n)
+  pub survivor_turn : (past : Past) (d : ℕ) (i : Bool) (b n : ℕ) → secondary_releases past ≡ true
+      → P past (Secondary d i b n) (survivor_made kind past d i b n)
+  pub accepts : (past : Past) (w : Waiting) → w.index ≡ past.next → P past Client (accepted_outcome past w)
+  pub is_full : (past : Past) → P past Client (silently (passed_frame past) Client (Full past.next) None)
+  pub answers : (past : Past) (b : List ℕ)
+      → P past Client (quietly (passed_frame past) (step_with Client (Arp past.next) [] None (reply b ∷ [])))
+  pub drops : (past : Past) (why : ℕ) → P past Client (silently (passed_frame past) Client (Dropped past.next why) None)
+  pub loses : (past : Past) → P past Client (silently (passed_frame past) Client (Lost past.next) None)
+  pub secondary_hears : (past : Past) (m : Message) (ms : List Message) → past.to_secondary ≡ m ∷ ms
+      → P past ToSecondary (secondary_hears (record past { to_secondary = ms }) m)
+  pub ignores : (past : Past) (m : Message) (ms : List Message) → past.to_primary ≡ m ∷ ms → is_ack m ≡ false
+      → past.awaits_ack ≡ true
+      → P past ToPrimary
+      (silently (record past { to_primary = ms }) ToPrimary (HeardBack (kind_of m) past.sent_heard 0) (Some m))
+  pub primary_hears : (past : Past) (m : Message) (ms : List Message) → past.to_primary ≡ m ∷ ms
+      → (past.awaits_ack && not (is_ack m)) ≡ false
+      → P past ToPrimary (primary_hears (record past { to_primary = ms }) m)
+  pub primary_stops : (past : Past)
+      → P past StopPrimary (silently (record past { stop = primary_stop }) StopPrimary Zero None)
+  pub secondary_stops : (past : Past)
+      → P past StopSecondary (silently (record past { stop = secondary_stop }) StopSecondary Zero None)
+  pub secondary_left : (past : Past) → is_primary_stop past.stop ≡ true → P past Report (secondary_survives past)
+  pub primary_left : (past : Past) → is_primary_stop past.stop ≡ false
+      → P past Report (outcome_with Report [] None Reported (primary_survives past))
+  pub asks : (past : Past) → past.awaits_ack ≡ false → P past Ask (asked_outcome past)
+
+take_case : (kind : Kind) (P : Claim) → Cases kind P → (past : Past) (w : Waiting) → w.index ≡ past.next
+    → P past Client (take_frame past w)
+unfolding take_frame
+take_case kind P h past w e =
+    cond_both (nat_le inbox_room (length (taking_inbox past)))
+    (silently (passed_frame past) Client (Full past.next) None) (accepted_outcome past w) (P past Client)
+    (λ f. h.is_full past) (λ f. h.accepts past w e)
+
+entry_case : (kind : Kind) (P : Claim) → Cases kind P → (past : Past) (entry : Entry)
+    → P past Client (client_entry past entry)
+unfolding client_entry
+entry_case kind P h past (frame_entry frame) =
+    take_case kind P h past (waiting_of past (look_at past (tcp_in frame)) frame) refl
+entry_case kind P h past (answer_entry b) = h.answers past b
+entry_case kind P h past (drop_entry why) = h.drops past why
+
+client_case : (kind : Kind) (P : Claim) → Cases kind P → (past : Past) (frame : Option (List ℕ))
+    → P past Client (client_event past frame)
+unfolding client_event
+client_case kind P h past None = h.idle past Client
+client_case kind P h past (Some frame) =
+    cond_both (is_primary_stop past.stop && not past.is_reported)
+    (silently (passed_frame past) Client (Lost past.next) None) (client_entry past (entry_of frame)) (P past Client)
+    (λ e. h.loses past) (λ e. entry_case kind P h past (entry_of frame))
+
+down_case : (kind : Kind) (P : Claim) → Cases kind P → (past : Past) (ms : List Message) → past.to_secondary ≡ ms
+    → P past ToSecondary (deliver_down past ms)
+unfolding deliver_down
+down_case kind P h past [] e = h.idle past ToSecondary
+down_case kind P h past (m ∷ ms) e = h.secondary_hears past m ms e
+
+up_case : (kind : Kind) (P : Claim) → Cases kind P → (past : Past) (ms : List Message) → past.to_primary ≡ ms
+    → P past ToPrimary (deliver_up past ms)
+unfolding deliver_up
+up_case kind P h past [] e = h.idle past ToPrimary
+up_case kind P h past (m ∷ ms) e =
+    cond_both (past.awaits_ack && not (is_ack m))
+    (silently (record past { to_primary = ms }) ToPrimary (HeardBack (kind_of m) past.sent_heard 0) (Some m))
+    (primary_hears (record past { to_primary = ms }) m) (P past ToPrimary)
+    (λ f. let parts =
+    and_parts past.awaits_ack (not (is_ack m)) f in h.ignores past m ms e (not-true (is_ack m) parts.1) parts.0)
+    (λ f. h.primary_hears past m ms e f)
+
+primary_case : (kind : Kind) (P : Claim) → Cases kind P → (past : Past) (d : ℕ) (i : Bool) (b n : ℕ)
+    → P past (Primary d i b n) (primary_event kind past (Primary d i b n) i (numbers_of d b n))
+unfolding primary_event
+primary_case kind P h past d i b n =
+    cond_both (is_primary_stop past.stop || past.awaits_ack) (silently past (Primary d i b n) Nothing None)
+    (primary_made kind past d i b n) (P past (Primary d i b n))
+    (λ e. h.idle past (Primary d i b n))
+    (λ e. let parts =
+    or_parts (is_primary_stop past.stop) past.awaits_ack e in h.primary_turn past d i b n parts.0 parts.1)
+
+secondary_case : (kind : Kind) (P : Claim) → Cases kind P → (past : Past) (d : ℕ) (i : Bool) (b n : ℕ)
+    → P past (Secondary d i b n) (secondary_event kind past (Secondary d i b n) i (numbers_of d b n))
+unfolding secondary_event
+secondary_case kind P h past d i b n =
+    cond_both (is_secondary_stop past.stop) (silently past (Secondary d i b n) Nothing None)
+    (if secondary_releases past then survivor_made kind past d i b n else secondary_made kind past d i b n)
+    (P past (Secondary d i b n))
+    (λ e. h.idle past (Secondary d i b n))
+    (λ e. cond_both (secondary_releases past) (survivor_made kind past d i b n) (secondary_made kind past d i b n)
+    (P past (Secondary d i b n)) (λ f. h.survivor_turn past d i b n f) (λ f. h.secondary_turn past d i b n e f))
+
+report_case : (kind : Kind) (P : Claim) → Cases kind P → (past : Past) → P past Report (report_event past)
+unfolding report_event
+report_case kind P h past =
+    cond_both (is_primary_stop past.stop) (secondary_survives past)
+    (outcome_with Report [] None Reported (primary_survives past)) (P past Report)
+    (λ e. h.secondary_left past e) (λ e. h.primary_left past e)
+
+ask_case : (kind : Kind) (P : Claim) → Cases kind P → (past : Past) → P past Ask (ask_event past)
+unfolding ask_event
+ask_case kind P h past =
+    cond_both (past.awaits_ack || (is_primary_stop past.stop || is_secondary_stop past.stop))
+    (silently past Ask Nothing None)
+    (asked_outcome past) (P past Ask)
+    (λ e. h.idle past Ask)
+    (λ e. h.asks past (or_parts past.awaits_ack (is_primary_stop past.stop || is_secondary_stop past.stop) e).0)
+
+-- every event
+pub each_case : (kind : Kind) (stream : List (List ℕ)) (P : Claim) → Cases kind P → (past : Past) (x : Line)
+    → P past x (outcome_of kind stream past x)
+unfolding outcome_of
+each_case kind stream P h past (Primary d i b n) = primary_case kind P h past d i b n
+each_case kind stream P h past (Secondary d i b n) = secondary_case kind P h past d i b n
+each_case kind stream P h past Client = client_case kind P h past (slice_get stream past.next)
+each_case kind stream P h past ToSecondary =
+    cond_both (is_secondary_stop past.stop || past.is_reported) (silently past ToSecondary Nothing None)
+    (deliver_down past past.to_secondary) (P past ToSecondary)
+    (λ e. h.idle past ToSecondary) (λ e. down_case kind P h past past.to_secondary refl)
+each_case kind stream P h past ToPrimary =
+    cond_both (is_primary_stop past.stop || past.is_reported) (silently past ToPrimary Nothing None)
+    (deliver_up past past.to_primary) (P past ToPrimary)
+    (λ e. h.idle past ToPrimary) (λ e. up_case kind P h past past.to_primary refl)
+each_case kind stream P h past StopPrimary = h.primary_stops past
+each_case kind stream P h past StopSecondary = h.secondary_stops past
+each_case kind stream P h past Report = report_case kind P h past
+each_case kind stream P h past Ask = ask_case kind P h past

@@ -1,0 +1,71 @@
+-- A turn of a guest, from the inbox of its node.
+use Rattle.std.specs.Prelude.{ℕ, Bool, true, false, ◌&&◌, List, [], ◌∷◌, ◌++◌, map, Option, None, Some}
+use Rattle.inet_frame.specs.Frame.{seen_of}
+use Rattle.tcp_track.specs.Lines.{sent, sent_of}
+use Rattle.tcp_track.specs.Stands.{segments}
+use Rattle.pair_theorem.specs.ClientFrames.{Waiting, given_frame}
+use Rattle.state_wire.specs.Guest.{GuestTurn, Kind}
+use Rattle.state_wire.specs.Run.{run_turn}
+use Rattle.pair_theorem.specs.Past.{NodeRun}
+use Rattle.pair_theorem.specs.SingleRun.{Taken}
+
+-- the numbers of a turn of a schedule
+pub record TurnNumbers : Type 0 where
+  pub clock : ℕ
+  pub blocks : ℕ
+  pub steps : ℕ
+
+abbrev pub guest_turn : TurnNumbers → Option (List ℕ) → GuestTurn
+guest_turn n frame =
+    record { ticks = n.clock; frame = frame; requests = n.blocks; steps = n.steps }
+
+abbrev pub taken_turn : TurnNumbers → Option ℕ → Taken
+taken_turn n index =
+    record { clock = n.clock; index = index; blocks = n.blocks; steps = n.steps }
+
+-- a run with one turn more
+unfoldable pub add_turn : Kind → NodeRun → GuestTurn → Taken → NodeRun
+unfolding seen_of
+add_turn kind node turn taken = record {
+  turns = node.turns ++ taken ∷ [];
+  run = run_turn kind node.run turn;
+  items = node.items ++ map sent (segments (kind.sent node.run.state turn));
+}
+
+-- the run, the inbox, the index of the frame that was taken, and what the guest sent in the turn
+pub record TurnMade : Type 0 where
+  pub run : NodeRun
+  pub inbox : List Waiting
+  pub index : Option ℕ
+  pub output : List (List ℕ)
+
+unfoldable pub turn_without : Kind → NodeRun → List Waiting → TurnNumbers → TurnMade
+unfolding add_turn
+turn_without kind node inbox n = record {
+  run = add_turn kind node (guest_turn n None) (taken_turn n None);
+  inbox = inbox;
+  index = None;
+  output = kind.sent node.run.state (guest_turn n None);
+}
+
+unfoldable pub turn_with : Kind → NodeRun → Waiting → List Waiting → TurnNumbers → TurnMade
+unfolding add_turn given_frame
+turn_with kind node w inbox n =
+    let turn = guest_turn n (Some (given_frame w.frame w.seen (sent_of node.items))) in record {
+      run = add_turn kind node turn (taken_turn n (Some w.index));
+      inbox = inbox;
+      index = Some w.index;
+      output = kind.sent node.run.state turn;
+    }
+
+unfoldable pub turn_if : Bool → Kind → NodeRun → Waiting → List Waiting → TurnNumbers → TurnMade
+unfolding turn_without turn_with
+turn_if true kind node w inbox n = turn_with kind node w inbox n
+turn_if false kind node w inbox n = turn_without kind node (w ∷ inbox) n
+
+-- a turn takes the oldest frame where it is to, there is one, and the guest can receive
+unfoldable pub turn_from : Kind → NodeRun → List Waiting → Bool → TurnNumbers → TurnMade
+unfolding turn_without turn_if
+turn_from kind node [] takes n = turn_without kind node [] n
+turn_from kind node (w ∷ inbox) takes n =
+    turn_if (takes && kind.can_receive node.run.state) kind node w inbox n

@@ -1,0 +1,16 @@
+pub mod Log
+pub mod SingleRun
+pub mod ClientFrames
+pub mod Messages
+pub mod Past
+pub mod GuestTurns
+pub mod Checkpoint
+pub mod Agreed
+pub mod Events
+pub mod History
+pub mod TheRun
+pub mod Places
+pub mod FrameParts
+pub mod LogParts
+pub mod Starts
+pub mod Theorem
