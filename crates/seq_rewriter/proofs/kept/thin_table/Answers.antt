@@ -1,0 +1,7 @@
+-- The entries that the test passes are left.
+use Rattle.std.proofs.Common.{rules}
+use Rattle.indexmap.proofs.CallerLemmas.{filter-RetainsPairs}
+use Rattle.seq_rewriter.proofs.kept.thin_table.Goals as goal
+
+pub returns : goal.returns
+returns c = filter-RetainsPairs _ _ _ (λ k v b w g call. search rules) _ _ c.retain.ensures.filtered
