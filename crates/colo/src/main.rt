@@ -1,21 +1,22 @@
 //! `colo`: carries out the command that its words spell, and ends with its status.
 #![tactic(auto)]
 
-use colo_base::{FileShelf, MemoryLink, OutSink, ScriptClock, Sink};
-use colo_top::colo;
-use std::alloc::AllocError;
+use colo_base::{FileShelf, MemoryLink, NoMemory, OutSink, ScriptClock, Sink};
+use colo_top::{Fault, colo};
 use std::env;
+use std::io::ErrorKind;
 use std::process::ExitCode;
 use std::rt::Env;
 
-/// The status of want of memory.
-const NO_MEMORY: u8 = 8;
-
-/// The words behind the program's name. None where they can't be read, as words that are no text.
-fn words(rt: &(impl Env + AllocGlobal)) -> Result<Vec<String>, AllocError> {
+/// The words after the program's name. None where they can't be read, as words that are no text.
+fn words(rt: &(impl Env + AllocGlobal)) -> Result<Vec<String>, NoMemory> {
     let mut words = Vec::new(rt.alloc());
-    let Ok(args) = env::args(rt) else {
-        return Ok(words);
+    let args = match env::args(rt) {
+        Ok(args) => args,
+        Err(error) => match error.kind() {
+            ErrorKind::OutOfMemory => return Err(NoMemory),
+            _ => return Ok(words),
+        },
     };
     for word in args.skip(1) {
         words.push(word)?;
@@ -26,8 +27,8 @@ fn words(rt: &(impl Env + AllocGlobal)) -> Result<Vec<String>, AllocError> {
 fn main(rt: HostRuntime) -> ExitCode {
     let mut out = OutSink::new(&rt);
     let Ok(words) = words(&rt) else {
-        let _ = out.put(b"no memory\n");
-        return ExitCode::from(NO_MEMORY);
+        let _ = out.put(Fault::NoMemory.line().as_bytes());
+        return ExitCode::from(Fault::NoMemory.status());
     };
     let mut shelf = FileShelf::new(&rt);
     let mut link = MemoryLink::new(rt.alloc());

@@ -1,4 +1,5 @@
--- The bus of the machine: memory, and the core-local interruptor. An access to anything else is refused.
+-- The bus of the machine: memory, and the core-local interruptor. An access to anything else is
+-- refused.
 use Rattle.std.specs.Prelude.{ℕ, ◌||◌, Bool, false, Option, Some, None, if◌then◌else◌}
 use Rattle.rv_core.specs.Acts.{Acts}
 use Rattle.colo_top.specs.Memory.{is_inside, loaded, stored}

@@ -7,26 +7,29 @@ use Rattle.colo_top.specs.Machine.{State}
 use Rattle.colo_top.specs.declared.machine.BootFault.{BootFault}
 use Rattle.colo_top.specs.declared.machine.BootFault.TheVariants.{Elf, NoMemory}
 
--- memory has 16 MiB
-abbrev pub ram_size : ℕ
-ram_size = 16 * 2 ^ 20
+-- the bytes of so many MiB
+abbrev pub ram_size : ℕ → ℕ
+ram_size mib = mib * 2 ^ 20
 
--- each register is 0, pc is the image's entry, the CSRs are as they start, and memory holds the image's segments
-abbrev pub at_boot : List ℕ → State
-at_boot image = record {
+-- each register is 0, pc is the image's entry, the CSRs are as they start, memory holds the image's
+-- segments, and the disk is as given
+abbrev pub at_boot : ℕ → List ℕ → List ℕ → State
+at_boot mib image disk = record {
   hart = record { pc = entry_of image; x = replicate 32 0; reserved = false; address = 0 };
   csrs = boot_csrs;
-  memory = boot_memory ram_size image;
+  memory = boot_memory (ram_size mib) image;
+  disk = disk;
 }
 
 -- the state at boot, which exists where no case of the loader holds
-unfoldable pub boot_state : List ℕ → Option State
-boot_state image = if is_none (elf_case ram_size image) then Some (at_boot image) else None
+unfoldable pub boot_state : ℕ → List ℕ → List ℕ → Option State
+boot_state mib image disk =
+    if is_none (elf_case (ram_size mib) image) then Some (at_boot mib image disk) else None
 
 -- a fault of the loader is the first case that holds of the image
-abbrev pub IsCaseOf : List ℕ → BootFault → Type 0
-IsCaseOf image (Elf fault) = elf_case ram_size image ≡ Some fault.number
-IsCaseOf image NoMemory = Unit {0}
+abbrev pub IsCaseOf : ℕ → List ℕ → BootFault → Type 0
+IsCaseOf mib image (Elf fault) = elf_case (ram_size mib) image ≡ Some fault.number
+IsCaseOf mib image NoMemory = Unit {0}
 
 -- the cases of the loader are 1 to 12
 abbrev pub HasNumber : BootFault → Type 0

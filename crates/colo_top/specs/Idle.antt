@@ -12,7 +12,8 @@ idle_events turns = map idle_event turns
 -- the line of such an event, from the numbers of its turn
 abbrev pub idle_words : ℕ → ℕ → ℕ → ℕ → List ℕ
 idle_words ticks receives requests steps =
-    codes "P " ++ (decimal ticks ++ (codes " " ++ (decimal receives ++ (codes " " ++ (decimal requests ++ (codes " " ++ (decimal steps ++ codes " : - 0\n")))))))
+    codes "P " ++ (decimal ticks ++ (codes " " ++ (decimal receives ++ (codes " "
+    ++ (decimal requests ++ (codes " " ++ (decimal steps ++ codes " : - 0\n")))))))
 
 -- the line that a run of so many such events ends with
 abbrev pub summary_words : ℕ → List ℕ

@@ -2,16 +2,18 @@
 use Rattle.std.specs.Prelude.{◌≡◌, ℕ, ◌-◌, ◌^◌, min, List, [], ◌∷◌, ◌++◌, codes, decimal, map, flat_map, sum_by, length, All, Option, Some, None}
 use Rattle.colo_base.specs.declared.fault.Cause.{Cause}
 use Rattle.colo_base.specs.declared.fault.Cause.TheVariants.{Differ, Restart, Wait, Asked}
+use Rattle.shared_definitions.specs.Ascii.{newline, space}
 use Rattle.colo_top.specs.declared.schedule.Turn.{Turn}
 use Rattle.colo_top.specs.Schedule.{line_words}
 
--- What a line did. `nothing` where it was not made; of a turn that was made the index of the frame that it took, if it
--- took one, and how many frames the event released.
+-- What a line did. `nothing` where it was not made; of a turn that was made the index of the frame
+-- that it took, if it took one, and how many frames the event released.
 pub data Answer : Type 0 where
   nothing : Answer
   made : Option ℕ → ℕ → Answer
 
--- A checkpoint that began in the event and its cause, one that was committed, one that was acknowledged.
+-- A checkpoint that began in the event and its cause, one that was committed, one that was
+-- acknowledged.
 pub data Mark : Type 0 where
   captured : ℕ → Cause → Mark
   committed : ℕ → Mark
@@ -33,16 +35,17 @@ cause_text Asked = codes "asked"
 unfoldable pub answer_text : Answer → List ℕ
 answer_text nothing = codes "-"
 answer_text (made None released) = codes "- " ++ decimal released
-answer_text (made (Some frame) released) = decimal frame ++ (32 ∷ decimal released)
+answer_text (made (Some frame) released) = decimal frame ++ (space ∷ decimal released)
 
 unfoldable pub mark_text : Mark → List ℕ
-mark_text (captured e cause) = codes "! q " ++ (decimal e ++ (32 ∷ (cause_text cause ++ (10 ∷ []))))
-mark_text (committed e) = codes "! k " ++ (decimal e ++ (10 ∷ []))
-mark_text (acknowledged e) = codes "! a " ++ (decimal e ++ (10 ∷ []))
+mark_text (captured e cause) = codes "! q " ++ (decimal e ++ (space ∷ (cause_text cause ++ (newline ∷ []))))
+mark_text (committed e) = codes "! k " ++ (decimal e ++ (newline ∷ []))
+mark_text (acknowledged e) = codes "! a " ++ (decimal e ++ (newline ∷ []))
 
--- the line, its answer behind ` : `, and a line for each mark
+-- the line, its answer after ` : `, and a line for each mark
 unfoldable pub event_text : Event → List ℕ
-event_text e = line_words e.turn ++ (codes " : " ++ (answer_text e.answer ++ (10 ∷ flat_map mark_text e.marks)))
+event_text e = line_words e.turn ++ (codes " : " ++ (answer_text e.answer ++ (newline ∷
+    flat_map mark_text e.marks)))
 
 unfoldable pub log_text : List Event → List ℕ
 log_text events = flat_map event_text events
@@ -62,14 +65,18 @@ is_capture (captured e cause) = 1
 is_capture (committed e) = 0
 is_capture (acknowledged e) = 0
 
--- The line that a run ends with: its events, the frames released and the checkpoints begun. A count stands at 2^64 - 1 at most.
+-- The line that a run ends with: its events, the frames released and the checkpoints begun. A count
+-- stands at 2^64 - 1 at most.
 unfoldable pub summary_text : List Event → List ℕ
 summary_text events =
     codes "lines " ++ (decimal (min (length events) (2 ^ 64 - 1))
-    ++ (codes " released " ++ (decimal (min (sum_by (λ e. released_by e.answer) events) (2 ^ 64 - 1))
-    ++ (codes " captured " ++ (decimal (min (sum_by (λ e. sum_by is_capture e.marks) events) (2 ^ 64 - 1)) ++ (10 ∷ []))))))
+    ++ (codes " released " ++ (decimal (min (sum_by (λ e. released_by e.answer) events)
+    (2 ^ 64 - 1))
+    ++ (codes " captured " ++ (decimal (min (sum_by (λ e. sum_by is_capture e.marks) events)
+    (2 ^ 64 - 1)) ++ (newline ∷ []))))))
 
--- A turn of a primary that hears nothing and has no frame waiting: it takes no frame, releases none, and starts no checkpoint.
+-- A turn of a primary that hears nothing and has no frame waiting: it takes no frame, releases
+-- none, and starts no checkpoint.
 pub record IsIdle (e : Event) : Type 0 where
   pub answer : e.answer ≡ made None 0
   pub marks : e.marks ≡ []

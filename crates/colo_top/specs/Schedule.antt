@@ -1,6 +1,7 @@
--- A schedule of primary turns as text: lines `P d i b n`, each ended by a newline. Words are parted by one
--- space, and numbers are decimal without sign or needless zeros.
+-- A schedule of primary turns as text: lines `P d i b n`, each ended by a newline. Words are separated
+-- by one space, and numbers are decimal without sign or leading zeros.
 use Rattle.std.specs.Prelude.{◌≡◌, ℕ, ◌≤◌, ◌<◌, ◌^◌, List, [], ◌∷◌, ◌++◌, codes, decimal, All, flat_map, Bool, if◌then◌else◌}
+use Rattle.shared_definitions.specs.Ascii.{newline, space}
 use Rattle.colo_top.specs.declared.schedule.Turn.{Turn}
 
 -- the numbers that a line may have
@@ -15,10 +16,11 @@ flag b = if b then 1 else 0
 
 -- the line without its newline
 unfoldable pub line_words : Turn → List ℕ
-line_words t = codes "P " ++ (decimal t.ticks ++ (32 ∷ (decimal (flag t.receives) ++ (32 ∷ (decimal t.requests ++ (32 ∷ decimal t.steps))))))
+line_words t = codes "P " ++ (decimal t.ticks ++ (space ∷ (decimal (flag t.receives) ++ (space ∷
+    (decimal t.requests ++ (space ∷ decimal t.steps))))))
 
 unfoldable pub line_text : Turn → List ℕ
-line_text t = line_words t ++ (10 ∷ [])
+line_text t = line_words t ++ (newline ∷ [])
 
 -- the text of a schedule is that of its lines, in order
 unfoldable pub schedule_text : List Turn → List ℕ

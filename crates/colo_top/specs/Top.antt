@@ -1,159 +1,159 @@
--- What the top call ends with.
-use Rattle.std.specs.Prelude.{◌≡◌, ℕ, List, codes, Some, None, IsTrue, ◌⊎◌}
-use Rattle.colo_base.specs.Shelf.{ShelfState}
-use Rattle.colo_base.specs.Sink.{SinkState, Puts, PutsPart}
+-- What a call of the program leaves, by its status, and when each status comes.
+use Rattle.std.specs.Prelude.{◌≡◌, ℕ, List, Some, None, IsTrue, MatchBool, ◌==◌, ◌⊎◌}
+use Rattle.colo_base.specs.Clock.{ClockState}
 use Rattle.colo_base.specs.Count.{Increased}
-use Rattle.elf_load.specs.Boot.{elf_case}
-use Rattle.colo_top.specs.declared.schedule.Turn.{Turn}
-use Rattle.colo_top.specs.declared.fault.Fault.{Fault}
-use Rattle.colo_top.specs.Words.{Replay, Spells}
-use Rattle.colo_top.specs.Boot.{ram_size}
-use Rattle.colo_top.specs.FaultLines.{image_line, line_of, status_of}
-use Rattle.colo_top.specs.Machine.{State}
-use Rattle.colo_top.specs.Run.{run_from}
-use Rattle.colo_top.specs.Files.{IsOutput, WriteFailed}
-use Rattle.colo_top.specs.Inputs.{Texts, ReadFailed, IsNotBuilt}
-use Rattle.colo_top.specs.Ends.{KeepsFiles, IsReady, Replays, HasCase, FailsToRead, FailsToWrite, WantsMemory, IsLeftOut, StopsShort, EndsBy}
+use Rattle.colo_base.specs.Link.{LinkState}
+use Rattle.colo_base.specs.Shelf.{ShelfState, ChangesOnly}
+use Rattle.colo_base.specs.Sink.{SinkState, Puts, PutsPart, SinkGoesOn}
+use Rattle.colo_top.specs.declared.fault.Fault.TheVariants.{Usage, Read, Write, NoMemory, NotBuilt}
+use Rattle.colo_top.specs.Command.{reads, out_of, outputs_of, is_online}
+use Rattle.colo_top.specs.Files.{IsFileOf, WriteFailed}
+use Rattle.colo_top.specs.Outcome.{IsUntouched, FailsToRead, FailsToWrite, RunsOutOfMemory, Completes, IsUnsupported, BadImage, UnsupportedInput, UnsupportedStep, CanComplete}
+use Rattle.colo_top.specs.Reading.{FetchFailed}
+use Rattle.colo_top.specs.Status.{line, image_line}
+use Rattle.colo_top.specs.Words.{Command, read_words}
 
--- the statuses of the program
-abbrev pub IsStatus : ℕ → Type 0
-IsStatus s = (s ≡ 0) ⊎ ((s ≡ 1) ⊎ ((s ≡ 2) ⊎ ((s ≡ 6) ⊎ ((s ≡ 7) ⊎ ((s ≡ 8) ⊎ (s ≡ 9))))))
+-- the outside at one moment
+pub record Outside : Type 0 where
+  pub shelf : ShelfState
+  pub link : LinkState
+  pub clock : ClockState
+  pub sink : SinkState
+
+-- a call of the program: its words, the outside before and after, and the status that it gave
+pub record Call : Type 0 where
+  pub words : List (List ℕ)
+  pub before : Outside
+  pub after : Outside
+  pub status : ℕ
 
 -- the line was put, or a prefix of it where its put failed
 abbrev pub Prints : SinkState → SinkState → List ℕ → Type 0
-Prints old new line = Puts old new line ⊎ (PutsPart old new line × Increased old.faults new.faults)
+Prints old new text = Puts old new text ⊎ (PutsPart old new text × Increased old.faults new.faults)
 
--- the words spell no command
-abbrev pub IsMisspelled : List (List ℕ) → Type 0
-IsMisspelled words = (command : Replay) → Spells words command → ⊥
+-- the words spell a command of which P holds
+abbrev pub OfCommand : Call → (Command → Type 0) → Type 0
+OfCommand call P = (command : Command) × (read_words call.words ≡ Some command) × P command
 
--- ---- what each status says: of the command that the words spell, of the files and of what was put
+-- ---- what each status means
 
--- status 0: the run is whole, and its summary was put
-pub record IsDone (words : List (List ℕ)) (old new : ShelfState) (before after : SinkState) : Type 0 where
-  pub command : Replay
-  pub spelled : Spells words command
-  pub line : List ℕ
-  pub run : Replays command old new line
-  pub put : Puts before after line
+-- 0: the work is done, its line was put, and no call failed
+pub record Done (call : Call) (command : Command) : Type 0 where
+  pub text : List ℕ
+  pub work : Completes command call.before.shelf call.after.shelf text
+  pub put : Puts call.before.sink call.after.sink text
+  pub puts : call.after.sink.faults ≡ call.before.sink.faults
 
--- status 2
-pub record IsCase (words : List (List ℕ)) (old new : ShelfState) (before after : SinkState) : Type 0 where
-  pub command : Replay
-  pub spelled : Spells words command
+-- 1: the words spell no command
+pub record NoCommand (call : Call) : Type 0 where
+  pub words : read_words call.words ≡ None
+  pub files : IsUntouched call.before.shelf call.after.shelf
+  pub put : Prints call.before.sink call.after.sink (line Usage)
+
+-- 2: the loader refuses the image
+pub record RefusesImage (call : Call) (command : Command) : Type 0 where
   pub number : ℕ
-  pub run : HasCase command old new number
-  pub put : Prints before after (image_line number)
+  pub first : BadImage command call.before.shelf number
+  pub files : IsUntouched call.before.shelf call.after.shelf
+  pub put : Prints call.before.sink call.after.sink (image_line number)
 
--- status 6
-pub record IsUnread (words : List (List ℕ)) (old new : ShelfState) (before after : SinkState) : Type 0 where
-  pub command : Replay
-  pub spelled : Spells words command
-  pub run : FailsToRead command old new
-  pub put : Prints before after (codes "read failed\n")
+-- 6: a file can't be read
+pub record ReadFailed (call : Call) (command : Command) : Type 0 where
+  pub work : FailsToRead command call.before.shelf call.after.shelf
+  pub put : Prints call.before.sink call.after.sink (line Read)
 
--- the files are whole, but the put of the summary failed, and a prefix of it was put
-pub record IsUnsaid (command : Replay) (old new : ShelfState) (before after : SinkState) : Type 0 where
-  pub line : List ℕ
-  pub run : Replays command old new line
-  pub put : PutsPart before after line
-  pub failed : Increased before.faults after.faults
+-- 7: a file can't be written, or the work is done and its line can't be put
+pub record OutputFailed (call : Call) (command : Command) : Type 0 where
+  pub work : FailsToWrite command call.before.shelf call.after.shelf
+  pub put : Prints call.before.sink call.after.sink (line Write)
 
--- a file couldn't be written
-pub record IsUnfiled (command : Replay) (old new : ShelfState) (before after : SinkState) : Type 0 where
-  pub run : FailsToWrite command old new
-  pub put : Prints before after (codes "write failed\n")
+pub record LineFailed (call : Call) (command : Command) : Type 0 where
+  pub text : List ℕ
+  pub work : Completes command call.before.shelf call.after.shelf text
+  pub put : PutsPart call.before.sink call.after.sink text
+  pub failed : Increased call.before.sink.faults call.after.sink.faults
 
--- status 7
-pub record IsUnwritten (words : List (List ℕ)) (old new : ShelfState) (before after : SinkState) : Type 0 where
-  pub command : Replay
-  pub spelled : Spells words command
-  pub why : IsUnfiled command old new before after ⊎ IsUnsaid command old new before after
+-- 8: memory was refused
+pub record OutOfMemory (call : Call) (command : Command) : Type 0 where
+  pub work : RunsOutOfMemory command call.before.shelf call.after.shelf
+  pub put : Prints call.before.sink call.after.sink (line NoMemory)
 
--- status 8
-pub record IsOutOfMemory (words : List (List ℕ)) (old new : ShelfState) (before after : SinkState) : Type 0 where
-  pub command : Replay
-  pub spelled : Spells words command
-  pub run : WantsMemory command old new
-  pub put : Prints before after (codes "no memory\n")
+-- 9: something isn't built
+pub record NotSupported (call : Call) (command : Command) : Type 0 where
+  pub work : IsUnsupported command call.before.shelf call.after.shelf
+  pub put : Prints call.before.sink call.after.sink (line NotBuilt)
 
--- status 9
-pub record IsUnbuilt (words : List (List ℕ)) (old new : ShelfState) (before after : SinkState) : Type 0 where
-  pub command : Replay
-  pub spelled : Spells words command
-  pub run : IsLeftOut command old new ⊎ StopsShort command old new
-  pub put : Prints before after (codes "not built\n")
+-- the table of statuses; no other comes
+abbrev pub Means : Call → ℕ → Type 0
+Means call status =
+    MatchBool (status == 0) (OfCommand call (Done call))
+    (MatchBool (status == 1) (NoCommand call)
+    (MatchBool (status == 2) (OfCommand call (RefusesImage call))
+    (MatchBool (status == 6) (OfCommand call (ReadFailed call))
+    (MatchBool (status == 7) (OfCommand call (OutputFailed call) ⊎ OfCommand call (LineFailed call))
+    (MatchBool (status == 8) (OfCommand call (OutOfMemory call))
+    (MatchBool (status == 9) (OfCommand call (NotSupported call)) ⊥))))))
 
--- ---- when each status comes, over a shelf that tells
+-- ---- when each status comes, where contents can be observed
 
--- the files that the command names have these bytes
-pub record AreThere (shelf : ShelfState) (command : Replay) (texts : Texts) : Type 0 where
-  pub observable : IsTrue shelf.observable
-  pub image : shelf.contents command.image ≡ Some texts.image
-  pub disk : shelf.contents command.disk ≡ Some texts.disk
-  pub client : shelf.contents command.client ≡ Some texts.client
-  pub schedule : shelf.contents command.schedule ≡ Some texts.schedule
+-- where the words spell a command of which P holds, and the shelf can be observed, the status is
+-- one of which Q holds
+abbrev pub Gives : Call → (Command → Type 0) → (ℕ → Type 0) → Type 0
+Gives call P Q =
+    (command : Command) → read_words call.words ≡ Some command
+    → IsTrue call.before.shelf.observable → P command → Q call.status
 
--- where a case of the loader holds of the image the status is 2, unless a file can't be read or memory is wanting
-abbrev pub FindsCase : List (List ℕ) → ShelfState → ℕ → Type 0
-FindsCase words old status =
-    (command : Replay) (texts : Texts) (number : ℕ) → Spells words command → AreThere old command texts → elf_case ram_size texts.image ≡ Some number →
-    (status ≡ 2) ⊎ ((status ≡ 6) ⊎ (status ≡ 8))
+-- the statuses where a case of the loader holds: 2, unless a file can't be read or memory is
+-- refused
+abbrev pub OnBadImage : ℕ → Type 0
+OnBadImage status = (status ≡ 2) ⊎ ((status ≡ 6) ⊎ (status ≡ 8))
 
--- where none holds and something else isn't built the status is 9, unless a file can't be read or memory is wanting
-abbrev pub FindsLeftOut : List (List ℕ) → ShelfState → ℕ → Type 0
-FindsLeftOut words old status =
-    (command : Replay) (texts : Texts) → Spells words command → AreThere old command texts → elf_case ram_size texts.image ≡ None → IsNotBuilt texts →
-    (status ≡ 9) ⊎ ((status ≡ 6) ⊎ (status ≡ 8))
+-- those where an input isn't supported
+abbrev pub OnUnsupportedInput : ℕ → Type 0
+OnUnsupportedInput status = (status ≡ 9) ⊎ ((status ≡ 6) ⊎ (status ≡ 8))
 
--- where the run comes to a step that isn't built the status is 9, unless a file can't be read or written or memory is wanting
-abbrev pub FindsStop : List (List ℕ) → ShelfState → ℕ → Type 0
-FindsStop words old status =
-    (command : Replay) (texts : Texts) (turns : List Turn) (boot : State) → Spells words command → AreThere old command texts → IsReady texts turns boot → run_from boot turns ≡ None →
-    (status ≡ 9) ⊎ ((status ≡ 6) ⊎ ((status ≡ 7) ⊎ (status ≡ 8)))
+-- those where a step isn't supported: files are written before it
+abbrev pub OnUnsupportedStep : ℕ → Type 0
+OnUnsupportedStep status = (status ≡ 9) ⊎ ((status ≡ 6) ⊎ ((status ≡ 7) ⊎ (status ≡ 8)))
 
--- no count of a file that the command reads or writes rose, nor that of the sink
-pub record NoCountRose (command : Replay) (old new : ShelfState) (before after : SinkState) : Type 0 where
-  pub reads : ReadFailed old new command → ⊥
-  pub writes : WriteFailed old new command.out → ⊥
-  pub puts : Increased before.faults after.faults → ⊥
+-- those where nothing stands against the command and no count increased
+abbrev pub OnCompletion : ℕ → Type 0
+OnCompletion status = (status ≡ 0) ⊎ (status ≡ 8)
 
--- where nothing of that holds and no count rose the run is whole, unless memory is wanting
-abbrev pub Completes : List (List ℕ) → ShelfState → ShelfState → SinkState → SinkState → ℕ → Type 0
-Completes words old new before after status =
-    (command : Replay) (texts : Texts) (turns : List Turn) (boot last : State) → Spells words command → AreThere old command texts → IsReady texts turns boot → run_from boot turns ≡ Some last →
-    NoCountRose command old new before after → (status ≡ 0) ⊎ (status ≡ 8)
+-- no count increased of a file that the command reads or writes, nor the sink's
+pub record NoFailure (call : Call) (command : Command) : Type 0 where
+  pub reads : FetchFailed (reads command) call.before.shelf call.after.shelf → ⊥
+  pub writes : WriteFailed (out_of command)
+      (outputs_of command) call.before.shelf call.after.shelf → ⊥
+  pub puts : Increased call.before.sink.faults call.after.sink.faults → ⊥
 
 -- the name is that of a file that the words' command writes
-abbrev pub IsWritten : List (List ℕ) → List ℕ → Type 0
-IsWritten words name = (command : Replay) × Spells words command × IsOutput command.out name
+abbrev pub IsWritten : Call → List ℕ → Type 0
+IsWritten call name =
+    OfCommand call (λ command. IsFileOf (out_of command) (outputs_of command) name)
 
--- ---- the three ways to end, of which the clauses above speak one by one
+-- whether the words spell a command that uses the link and the clock
+abbrev pub IsOnline : List (List ℕ) → Type 0
+IsOnline words =
+    (command : Command) × (read_words words ≡ Some command) × IsTrue (is_online command)
 
--- the words spell no command
-pub record EndsMisspelled (words : List (List ℕ)) (old new : ShelfState) (before after : SinkState) (ends : ℕ) : Type 0 where
-  pub status : ends ≡ 1
-  pub misspelled : IsMisspelled words
-  pub files : KeepsFiles old new
-  pub put : Prints before after (codes "usage\n")
-
--- the files are whole, and the summary was put or not
-pub record EndsWhole (words : List (List ℕ)) (old new : ShelfState) (before after : SinkState) (status : ℕ) : Type 0 where
-  pub command : Replay
-  pub spelled : Spells words command
-  pub line : List ℕ
-  pub run : Replays command old new line
-  pub put : ((status ≡ 0) × Puts before after line) ⊎ ((status ≡ 7) × PutsPart before after line × Increased before.faults after.faults)
-
--- a fault ended it
-pub record EndsFaulty (words : List (List ℕ)) (old new : ShelfState) (before after : SinkState) (ends : ℕ) : Type 0 where
-  pub command : Replay
-  pub spelled : Spells words command
-  pub fault : Fault
-  pub run : EndsBy command old new fault
-  pub status : ends ≡ status_of fault
-  pub put : Prints before after (line_of fault)
-
-abbrev pub Ended : List (List ℕ) → ShelfState → ShelfState → SinkState → SinkState → ℕ → Type 0
-Ended words old new before after status =
-    EndsMisspelled words old new before after status ⊎ (EndsWhole words old new before after status ⊎ EndsFaulty words old new before after status)
+-- what is promised of every call of the program
+pub record Ends (call : Call) : Type 0 where
+  -- what its status means
+  pub means : Means call call.status
+  -- 1 comes where the words spell no command
+  pub finds_no_command : read_words call.words ≡ None → call.status ≡ 1
+  -- 2 comes where a case of the loader holds of the image
+  pub finds_bad_image : (number : ℕ) → Gives call
+      (λ command. BadImage command call.before.shelf number) OnBadImage
+  -- 9 comes where an input or a step isn't supported
+  pub finds_unsupported_input : Gives call
+      (λ command. UnsupportedInput command call.before.shelf) OnUnsupportedInput
+  pub finds_unsupported_step : Gives call
+      (λ command. UnsupportedStep command call.before.shelf) OnUnsupportedStep
+  -- 0 comes where nothing stands against it
+  pub completes : Gives call (λ command. CanComplete command call.before.shelf
+      × NoFailure call command) OnCompletion
+  -- no file changes but those that the command writes
+  pub other_files : ChangesOnly (IsWritten call) call.before.shelf call.after.shelf
+  pub sink : SinkGoesOn call.before.sink call.after.sink

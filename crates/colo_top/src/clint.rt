@@ -1,7 +1,9 @@
-//! The core-local interruptor: the software interrupt's line and the timer, as registers in the address space.
+//! The core-local interruptor: the software interrupt's line and the timer, as registers in the
+//! address space.
 
 ghost use Rattle.std.specs.Prelude.{◌≡◌, ◌%◌, ◌^◌, ◌<◌};
-ghost use Rattle.colo_top.specs.Clint.{clint_loaded, clint_stores, clint_stored, low_half, high_half, with_low_half, with_high_half};
+ghost use Rattle.shared_definitions.specs.Halves.{low_half, high_half, with_low_half, with_high_half};
+ghost use Rattle.colo_top.specs.Clint.{clint_loaded, clint_stores, clint_stored};
 
 /// The address of `msip`.
 const MSIP: u32 = 0x0200_0000;
@@ -14,8 +16,8 @@ const MTIME: u32 = 0x0200_BFF8;
 /// The address of its high half.
 const MTIME_HIGH: u32 = 0x0200_BFFC;
 
-/// What the interruptor holds: the software interrupt's line, the time from which the timer's interrupt
-/// is pending, and the time.
+/// What the interruptor holds: the software interrupt's line, the time from which the timer's
+/// interrupt is pending, and the time.
 #[derive(Clone, Copy)]
 pub struct Clint {
     pub msip: bool,
@@ -24,7 +26,8 @@ pub struct Clint {
 }
 
 impl Clint {
-    /// The word of a register. `None` exactly where the access isn't one of 4 bytes at a register's address.
+    /// The word of a register. `None` exactly where the access isn't one of 4 bytes at a register's
+    /// address.
     #[tactic(auto, unfolding(crate::specs::Clint::clint_loaded, crate::specs::Clint::register_at, crate::specs::Clint::registers))]
     #[inline(never)]
     pub fn load(&self, addr: u32, width: u32) -> Option<u32>
@@ -43,8 +46,8 @@ impl Clint {
         }
     }
 
-    /// Writes the word of a register. `false` exactly where the access isn't one of 4 bytes at a register's
-    /// address; nothing changes then, nor at `mtime`.
+    /// Writes the word of a register. `false` exactly where the access isn't one of 4 bytes at a
+    /// register's address; nothing changes then, nor at `mtime`.
     #[tactic(auto, unfolding(crate::specs::Clint::clint_stores, crate::specs::Clint::clint_stored, crate::specs::Clint::register_at, crate::specs::Clint::registers))]
     #[inline(never)]
     pub fn store(&mut self, addr: u32, width: u32, value: u32) -> bool
@@ -65,24 +68,28 @@ impl Clint {
     }
 }
 
+/// The word of the lower 32 bits.
 fn low_half(number: u64) -> u32
     ensures { result ≡ low_half number }
 {
     (number % 0x1_0000_0000) as u32
 }
 
+/// The word of the upper 32 bits.
 fn high_half(number: u64) -> u32
     ensures { result ≡ high_half number }
 {
     (number >> 32) as u32
 }
 
+/// The number with another lower word.
 fn with_low_half(number: u64, half: u32) -> u64
     ensures { result ≡ with_low_half number half }
 {
     (number >> 32 << 32) + u64::from(half)
 }
 
+/// The number with another upper word.
 fn with_high_half(number: u64, half: u32) -> u64
     ensures { result ≡ with_high_half number half }
 {

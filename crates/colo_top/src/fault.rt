@@ -1,13 +1,17 @@
-//! Why a command ends with another status than 0.
+//! The statuses that the program ends with, other than 0, and the lines that it prints for them.
 
 ghost use Rattle.std.specs.Prelude.{◌≡◌, ◌≤◌};
-ghost use Rattle.colo_top.specs.FaultLines.{HasLine, image_line, line_of, status_of};
+ghost use Rattle.colo_top.specs.Status.{HasLine, image_line, line, read_fault, status, turn_fault, write_fault};
 
+use crate::machine::TurnFault;
+use colo_base::ShelfFault;
 use std::alloc::AllocError;
 
-/// Why a replay ends before its files are whole.
+/// Why a command ends with another status than 0.
 #[derive(Clone, Copy, Debug, PartialEq, Eq)]
 pub enum Fault {
+    /// The words spell no command.
+    Usage,
     /// The loader refuses the image by the case with this number.
     Image(u8),
     /// A file can't be read.
@@ -33,9 +37,10 @@ impl From<AllocError> for Fault {
 impl Fault {
     /// The status that the program ends with.
     pub fn status(self) -> u8
-        ensures { result ≡ status_of self }
+        ensures { result ≡ status self }
     {
         match self {
+            Fault::Usage => 1,
             Fault::Image(_) => 2,
             Fault::Read => 6,
             Fault::Write => 7,
@@ -47,9 +52,10 @@ impl Fault {
     /// The line that is printed, for a case of the loader from 1 to 12.
     pub fn line(self) -> &'static str
         requires { HasLine self }
-        ensures { result.now ≡ line_of self }
+        ensures { result.now ≡ line self }
     {
         match self {
+            Fault::Usage => "usage\n",
             Fault::Image(number) => image_line_of(number),
             Fault::Read => "read failed\n",
             Fault::Write => "write failed\n",
@@ -60,7 +66,7 @@ impl Fault {
 }
 
 /// The line of a case of the loader.
-#[tactic(auto, using(crate::proofs::CaseTexts::text_1, crate::proofs::CaseTexts::text_2, crate::proofs::CaseTexts::text_3, crate::proofs::CaseTexts::text_4, crate::proofs::CaseTexts::text_5, crate::proofs::CaseTexts::text_6, crate::proofs::CaseTexts::text_7, crate::proofs::CaseTexts::text_8, crate::proofs::CaseTexts::text_9, crate::proofs::CaseTexts::text_10, crate::proofs::CaseTexts::text_11, crate::proofs::CaseTexts::text_12))]
+#[tactic(auto, using(crate::proofs::CaseLemmas::case_texts))]
 fn image_line_of(number: u8) -> &'static str
     requires some { 1 ≤ number }
     requires within { number ≤ 12 }
@@ -80,5 +86,35 @@ fn image_line_of(number: u8) -> &'static str
         11 => "image: 11\n",
         12 => "image: 12\n",
         _ => unreachable!(),
+    }
+}
+
+/// A fault of a fetch as the command's.
+pub fn read_fault(fault: ShelfFault) -> Fault
+    ensures { result ≡ read_fault fault }
+{
+    match fault {
+        ShelfFault::Failed => Fault::Read,
+        ShelfFault::NoMemory => Fault::NoMemory,
+    }
+}
+
+/// A fault of a create or an append as the command's.
+pub fn write_fault(fault: ShelfFault) -> Fault
+    ensures { result ≡ write_fault fault }
+{
+    match fault {
+        ShelfFault::Failed => Fault::Write,
+        ShelfFault::NoMemory => Fault::NoMemory,
+    }
+}
+
+/// A fault of a turn as the command's.
+pub fn turn_fault(fault: TurnFault) -> Fault
+    ensures { result ≡ turn_fault fault }
+{
+    match fault {
+        TurnFault::NotBuilt => Fault::NotBuilt,
+        TurnFault::NoMemory => Fault::NoMemory,
     }
 }

@@ -1,13 +1,15 @@
 //! The files that a replay reads.
 
-ghost use Rattle.std.specs.Prelude.{◌≡◌, ◌↔◌, IfOk, IsErrOf, IsTrue};
+ghost use Rattle.std.specs.Prelude.{◌≡◌, ◌↔◌, IfOk, IsErrOf, IsTrue, OnOk};
 ghost use Rattle.colo_base.specs.Count.{Increased};
-ghost use Rattle.colo_top.specs.Command.{replay_of};
-ghost use Rattle.colo_top.specs.Ends.{KeepsFiles};
-ghost use Rattle.colo_top.specs.Inputs.{AreRead, HasFile, IsDisk, ReadFailed};
-ghost use Rattle.colo_top.specs.InputTexts.{texts_of};
+ghost use Rattle.colo_base.specs.Shelf.{NoFetchFailed, NoWriteFailed};
+ghost use Rattle.colo_top.specs.Command.{replay_of, reads};
+ghost use Rattle.colo_top.specs.Files.{HasFile, KeepsFiles};
+ghost use Rattle.colo_top.specs.ReadBytes.{texts_of};
+ghost use Rattle.colo_top.specs.Reading.{AreRead, FetchFailed, IsDisk};
+ghost use Rattle.colo_top.specs.Words.{replay_command};
 
-use crate::words::Command;
+use crate::words::Replay;
 use colo_base::{Shelf, ShelfFault};
 use std::alloc::Global;
 
@@ -28,8 +30,11 @@ pub struct Inputs {
 fn read_file<S: Shelf>(alloc: Global, shelf: &mut S, name: &str) -> Result<Vec<u8>, ShelfFault>
     ensures bytes { IfOk result (λ file. HasFile (S.state shelf.old) name.now file.items) }
     ensures files { KeepsFiles (S.state shelf.old) (S.state shelf.new) }
+    ensures writes { NoWriteFailed (S.state shelf.old) (S.state shelf.new) }
+    ensures counts { OnOk result (NoFetchFailed (S.state shelf.old) (S.state shelf.new)) }
     ensures cause { IsErrOf result ShelfFault.Failed
-        → Increased ((S.state shelf.old).fetch_faults name.now) ((S.state shelf.new).fetch_faults name.now) }
+        → Increased ((S.state shelf.old).fetch_faults name.now)
+        ((S.state shelf.new).fetch_faults name.now) }
 {
     let mut file = Vec::new(alloc);
     shelf.fetch(name, &mut file)?;
@@ -40,17 +45,21 @@ fn read_file<S: Shelf>(alloc: Global, shelf: &mut S, name: &str) -> Result<Vec<u
 pub fn read_all<S: Shelf>(
     alloc: Global,
     shelf: &mut S,
-    command: &Command<'_>,
+    words: &Replay<'_>,
 ) -> Result<Inputs, ShelfFault>
-    ensures read { IfOk result (λ inputs. AreRead (S.state shelf.old) (replay_of command.now) (texts_of inputs)) }
+    ensures read { IfOk result (λ inputs. AreRead (S.state shelf.old) (replay_of words.now)
+        (texts_of inputs)) }
     ensures files { KeepsFiles (S.state shelf.old) (S.state shelf.new) }
+    ensures writes { NoWriteFailed (S.state shelf.old) (S.state shelf.new) }
+    ensures counts { OnOk result (NoFetchFailed (S.state shelf.old) (S.state shelf.new)) }
     ensures cause { IsErrOf result ShelfFault.Failed
-        → ReadFailed (S.state shelf.old) (S.state shelf.new) (replay_of command.now) }
+        → FetchFailed (reads (replay_command (replay_of words.now))) (S.state shelf.old)
+        (S.state shelf.new) }
 {
-    let image = read_file(alloc, shelf, command.image)?;
-    let disk = read_file(alloc, shelf, command.disk)?;
-    let client = read_file(alloc, shelf, command.client)?;
-    let schedule = read_file(alloc, shelf, command.schedule)?;
+    let image = read_file(alloc, shelf, words.image)?;
+    let disk = read_file(alloc, shelf, words.disk)?;
+    let client = read_file(alloc, shelf, words.client)?;
+    let schedule = read_file(alloc, shelf, words.schedule)?;
     Ok(Inputs {
         image,
         disk,

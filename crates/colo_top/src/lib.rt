@@ -3,6 +3,7 @@
 
 mod board;
 mod clint;
+mod demo;
 mod devices;
 mod fault;
 mod input;
@@ -16,7 +17,9 @@ mod run;
 mod schedule;
 mod top;
 mod words;
+mod write_image;
 
+pub use fault::Fault;
 pub use top::colo;
 
 #[cfg(test)]

@@ -29,7 +29,7 @@ fn idle_line(
 }
 
 /// The log's text of a turn that took no frame and released none.
-#[tactic(auto, using(crate::proofs::LogText::idle_spelled))]
+#[tactic(auto, using(crate::proofs::LogLemmas::idle_spelled))]
 pub fn idle_text(alloc: Global, turn: &Turn) -> Result<String, AllocError>
     ensures { IfOk result (λ text. string_bytes text ≡ event_text (idle_event turn.now)) }
 {
@@ -42,7 +42,8 @@ pub fn idle_text(alloc: Global, turn: &Turn) -> Result<String, AllocError>
     )
 }
 
-/// The line that a run of so many events ends with, where no frame was released and no checkpoint began.
+/// The line that a run of so many events ends with, where no frame was released and no checkpoint
+/// began.
 fn summary_line(alloc: Global, lines: usize) -> Result<String, AllocError>
     ensures { IfOk result (λ text. string_bytes text ≡ summary_words lines) }
 {
@@ -50,7 +51,7 @@ fn summary_line(alloc: Global, lines: usize) -> Result<String, AllocError>
 }
 
 /// The line that a run of such turns ends with.
-#[tactic(auto, using(crate::proofs::LogText::summary_spelled))]
+#[tactic(auto, using(crate::proofs::LogLemmas::summary_spelled))]
 pub fn summary(alloc: Global, turns: &[Turn]) -> Result<String, AllocError>
     ensures { IfOk result (λ text. string_bytes text ≡ summary_text (idle_events turns.now)) }
 {

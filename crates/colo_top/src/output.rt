@@ -1,14 +1,14 @@
-//! The files that a run writes.
+//! The files that a command writes.
 
 ghost use Rattle.std.specs.Prelude.{◌≡◌, ◌++◌, IfOk, OnOk, OnErr, IsErrOf, string_bytes};
-ghost use Rattle.colo_base.specs.Shelf.{ChangesOnly};
-ghost use Rattle.colo_top.specs.Files.{ending, file_name, no_bytes, IsOutput, Creating, Writing, WriteFailed};
-ghost use Rattle.colo_top.specs.Steps.{Appends, AppendsPart, Clears, ClearsNot};
+ghost use Rattle.colo_base.specs.Count.{Increased};
+ghost use Rattle.colo_base.specs.Shelf.{ChangesOnly, NoFetchFailed, NoWriteFailed, Empties, EmptiesOrKeeps};
+ghost use Rattle.colo_top.specs.Files.{ending, file_name, empty_files, Appends, AppendsPart, HasFiles, KeepsOrEmpties, WriteFailed, WritesOnly};
 
 use colo_base::{Shelf, ShelfFault};
 use std::alloc::{AllocError, Global};
 
-/// A file that a run writes.
+/// A file that a command writes.
 #[derive(Clone, Copy)]
 pub enum Output {
     /// The events with their answers and marks.
@@ -21,18 +21,21 @@ pub enum Output {
     Ram,
     /// The disk after the run.
     Disk,
+    /// A demo image, in the file that the command names.
+    Image,
 }
 
-impl Output {
-    /// The written files in the order in which they are created.
-    const ALL: [Output; 5] = [
-        Output::Log,
-        Output::Released,
-        Output::Wire,
-        Output::Ram,
-        Output::Disk,
-    ];
-}
+/// The files of a replay, in the order in which they are created.
+pub const REPLAY_OUTPUTS: [Output; 5] = [
+    Output::Log,
+    Output::Released,
+    Output::Wire,
+    Output::Ram,
+    Output::Disk,
+];
+
+/// The file of a demo image.
+pub const IMAGE_OUTPUTS: [Output; 1] = [Output::Image];
 
 /// What the name of a written file ends with.
 fn ending_of(output: Output) -> &'static str
@@ -44,6 +47,7 @@ fn ending_of(output: Output) -> &'static str
         Output::Wire => ".wire",
         Output::Ram => ".ram",
         Output::Disk => ".disk",
+        Output::Image => "",
     }
 }
 
@@ -64,38 +68,62 @@ pub fn append_to<S: Shelf>(
     output: Output,
     bytes: &[u8],
 ) -> Result<(), ShelfFault>
-    ensures ok { OnOk result (Appends (S.state shelf.old) (S.state shelf.new) out.now output bytes.now) }
-    ensures err { OnErr result (AppendsPart (S.state shelf.old) (S.state shelf.new) out.now output bytes.now) }
-    ensures only { ChangesOnly (IsOutput out.now) (S.state shelf.old) (S.state shelf.new) }
-    ensures cause { IsErrOf result ShelfFault.Failed → WriteFailed (S.state shelf.old) (S.state shelf.new) out.now }
+    ensures ok { OnOk result (Appends (S.state shelf.old)
+        (S.state shelf.new) out.now output bytes.now) }
+    ensures err { OnErr result (AppendsPart (S.state shelf.old)
+        (S.state shelf.new) out.now output bytes.now) }
+    ensures only { ChangesOnly (λ name. name ≡ file_name out.now output) (S.state shelf.old)
+        (S.state shelf.new) }
+    ensures fetches { NoFetchFailed (S.state shelf.old) (S.state shelf.new) }
+    ensures counts { OnOk result (NoWriteFailed (S.state shelf.old) (S.state shelf.new)) }
+    ensures cause { IsErrOf result ShelfFault.Failed
+        → Increased ((S.state shelf.old).write_faults (file_name out.now output))
+        ((S.state shelf.new).write_faults (file_name out.now output)) }
 {
     let name = name_of(alloc, out, output)?;
     shelf.append(name.as_str(), bytes)
 }
 
-/// Makes a written file empty, where those before it are and those behind it are as they were.
+/// Makes a written file empty.
 fn create_one<S: Shelf>(
     alloc: Global,
     shelf: &mut S,
     out: &str,
     output: Output,
 ) -> Result<(), ShelfFault>
-    ensures ok { OnOk result (Clears (S.state shelf.old) (S.state shelf.new) out.now output) }
-    ensures err { OnErr result (ClearsNot (S.state shelf.old) (S.state shelf.new) out.now output) }
-    ensures cause { IsErrOf result ShelfFault.Failed → WriteFailed (S.state shelf.old) (S.state shelf.new) out.now }
+    ensures ok { OnOk result (Empties (S.state shelf.old) (S.state shelf.new)
+        (file_name out.now output)) }
+    ensures err { OnErr result (EmptiesOrKeeps (S.state shelf.old) (S.state shelf.new)
+        (file_name out.now output)) }
+    ensures only { ChangesOnly (λ name. name ≡ file_name out.now output) (S.state shelf.old)
+        (S.state shelf.new) }
+    ensures fetches { NoFetchFailed (S.state shelf.old) (S.state shelf.new) }
+    ensures counts { OnOk result (NoWriteFailed (S.state shelf.old) (S.state shelf.new)) }
+    ensures cause { IsErrOf result ShelfFault.Failed
+        → Increased ((S.state shelf.old).write_faults (file_name out.now output))
+        ((S.state shelf.new).write_faults (file_name out.now output)) }
 {
     let name = name_of(alloc, out, output)?;
     shelf.create(name.as_str())
 }
 
 /// Makes the written files empty, in their order.
-pub fn create_all<S: Shelf>(alloc: Global, shelf: &mut S, out: &str) -> Result<(), ShelfFault>
-    ensures ok { OnOk result (Writing (S.state shelf.old) (S.state shelf.new) out.now no_bytes) }
-    ensures err { OnErr result (Creating (S.state shelf.old) (S.state shelf.new) out.now) }
-    ensures cause { IsErrOf result ShelfFault.Failed → WriteFailed (S.state shelf.old) (S.state shelf.new) out.now }
+pub fn create_all<S: Shelf>(
+    alloc: Global,
+    shelf: &mut S,
+    out: &str,
+    outputs: &[Output],
+) -> Result<(), ShelfFault>
+    ensures ok { OnOk result (HasFiles (S.state shelf.new) out.now (empty_files outputs.now)) }
+    ensures err { OnErr result (KeepsOrEmpties out.now outputs.now (S.state shelf.old)
+        (S.state shelf.new)) }
+    ensures change { WritesOnly out.now outputs.now (S.state shelf.old) (S.state shelf.new) }
+    ensures counts { OnOk result (NoWriteFailed (S.state shelf.old) (S.state shelf.new)) }
+    ensures cause { IsErrOf result ShelfFault.Failed
+        → WriteFailed out.now outputs.now (S.state shelf.old) (S.state shelf.new) }
 {
-    for output in Output::ALL {
-        create_one(alloc, shelf, out, output)?;
+    for output in outputs {
+        create_one(alloc, shelf, out, *output)?;
     }
     Ok(())
 }

@@ -125,8 +125,8 @@ impl Ram {
         true
     }
 
-    /// The `width` bytes at an address as a number, the lowest first, where all of it is in memory. `width`
-    /// is 1, 2 or 4.
+    /// The `width` bytes at an address as a number, the lowest first, where all of it is in memory.
+    /// `width` is 1, 2 or 4.
     #[inline(always)]
     pub fn load(&self, addr: u32, width: u32) -> Option<u32>
         requires { (width ≡ 1) ⊎ ((width ≡ 2) ⊎ (width ≡ 4)) }
@@ -139,8 +139,8 @@ impl Ram {
         }
     }
 
-    /// Stores the lowest `width` bytes of `value` at an address, the lowest first, where all of it is in
-    /// memory; else `false`, and nothing changes. `width` is 1, 2 or 4.
+    /// Stores the lowest `width` bytes of `value` at an address, the lowest first, where all of it
+    /// is in memory; else `false`, and nothing changes. `width` is 1, 2 or 4.
     #[inline(always)]
     pub fn store(&mut self, addr: u32, width: u32, value: u32) -> bool
         requires { (width ≡ 1) ⊎ ((width ≡ 2) ⊎ (width ≡ 4)) }

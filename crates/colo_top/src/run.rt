@@ -1,60 +1,34 @@
-//! The run of a replay and the files that it writes.
+//! `replay`: runs a schedule, and writes what the run leaves.
 
-ghost use Rattle.std.specs.Prelude.{◌≡◌, ◌++◌, Some, IfOk, IfErr, OnOk, OnErr, IsErrOf, string_bytes};
-ghost use Rattle.colo_base.specs.Shelf.{ChangesOnly};
-ghost use Rattle.colo_top.specs.Command.{replay_of};
-ghost use Rattle.colo_top.specs.Ends.{EndsBy, Replays};
-ghost use Rattle.colo_top.specs.FaultLines.{HasLine};
-ghost use Rattle.colo_top.specs.Files.{IsOutput, WriteFailed};
-ghost use Rattle.colo_top.specs.Idle.{idle_event};
-ghost use Rattle.colo_top.specs.Log.{event_text};
-ghost use Rattle.colo_top.specs.Machine.{turned};
+ghost use Rattle.std.specs.Prelude.{◌≡◌, [], Some, IfOk, IfErr, OnOk, OnErr, IsErrOf, string_bytes};
+ghost use Rattle.colo_base.specs.Shelf.{NoWriteFailed};
+ghost use Rattle.colo_top.specs.Command.{replay_of, replay_outputs};
+ghost use Rattle.colo_top.specs.Files.{HasFiles, Appends, WriteFailed, WritesOnly};
+ghost use Rattle.colo_top.specs.Idle.{idle_event, idle_events};
+ghost use Rattle.colo_top.specs.Log.{event_text, log_text};
+ghost use Rattle.colo_top.specs.Machine.{run_turn};
+ghost use Rattle.colo_top.specs.Outcome.{Completes, FailsBy};
+ghost use Rattle.colo_top.specs.Replay.{RunDone, run_files};
 ghost use Rattle.colo_top.specs.Run.{run_from};
-ghost use Rattle.colo_top.specs.RunSteps.{fault_of_read, fault_of_turn, fault_of_write, Logs, WritesLast, WritesLastPart, TurnEnds, RunEnds, CarriesOut, CarryEnds};
-ghost use Rattle.colo_top.specs.Steps.{Appends};
+ghost use Rattle.colo_top.specs.RunSteps.{WritesLast, WritesLastPart, TurnFails, RunFails, PreparedFails};
+ghost use Rattle.colo_top.specs.Status.{HasLine};
+ghost use Rattle.colo_top.specs.Words.{replay_command};
 
-use crate::fault::Fault;
-use crate::input::{Inputs, read_all};
+use crate::fault::{Fault, read_fault, turn_fault, write_fault};
+use crate::input::read_all;
 use crate::log::{idle_text, summary};
-use crate::machine::{Machine, TurnFault};
-use crate::output::{Output, append_to, create_all};
+use crate::machine::Machine;
+use crate::output::{Output, REPLAY_OUTPUTS, append_to, create_all};
 use crate::prepare::{Ready, prepare};
 use crate::schedule::Turn;
-use crate::words::Command;
+use crate::words::Replay;
 use colo_base::{Shelf, ShelfFault};
 use std::alloc::Global;
 
-/// A fault of a read as the command's.
-fn read_fault(fault: ShelfFault) -> Fault
-    ensures { result ≡ fault_of_read fault }
-{
-    match fault {
-        ShelfFault::Failed => Fault::Read,
-        ShelfFault::NoMemory => Fault::NoMemory,
-    }
-}
+/// The size of memory where the words don't say it, in MiB.
+const DEFAULT_MIB: usize = 16;
 
-/// A fault of a write as the command's.
-fn write_fault(fault: ShelfFault) -> Fault
-    ensures { result ≡ fault_of_write fault }
-{
-    match fault {
-        ShelfFault::Failed => Fault::Write,
-        ShelfFault::NoMemory => Fault::NoMemory,
-    }
-}
-
-/// A fault of a turn as the command's.
-fn turn_fault(fault: TurnFault) -> Fault
-    ensures { result ≡ fault_of_turn fault }
-{
-    match fault {
-        TurnFault::NotBuilt => Fault::NotBuilt,
-        TurnFault::NoMemory => Fault::NoMemory,
-    }
-}
-
-/// Makes one turn, and adds the text of its event to the log.
+/// Runs one turn, and adds the text of its event to the log.
 fn run_turn<S: Shelf>(
     alloc: Global,
     shelf: &mut S,
@@ -62,10 +36,14 @@ fn run_turn<S: Shelf>(
     machine: &mut Machine,
     turn: &Turn,
 ) -> Result<(), Fault>
-    ensures ran { OnOk result (turned machine.old turn.now.ticks turn.now.steps ≡ Some machine.new) }
-    ensures logged { OnOk result (Appends (S.state shelf.old) (S.state shelf.new) out.now Output.Log (event_text (idle_event turn.now))) }
-    ensures only { ChangesOnly (IsOutput out.now) (S.state shelf.old) (S.state shelf.new) }
-    ensures ends { IfErr result (TurnEnds (S.state shelf.old) (S.state shelf.new) out.now machine.old turn.now) }
+    ensures ran { OnOk result (run_turn machine.old turn.now.ticks turn.now.steps
+        ≡ Some machine.new) }
+    ensures logged { OnOk result (Appends (S.state shelf.old)
+        (S.state shelf.new) out.now Output.Log (event_text (idle_event turn.now))) }
+    ensures change { WritesOnly out.now replay_outputs (S.state shelf.old) (S.state shelf.new) }
+    ensures counts { OnOk result (NoWriteFailed (S.state shelf.old) (S.state shelf.new)) }
+    ensures fails { IfErr result (TurnFails (S.state shelf.old)
+        (S.state shelf.new) out.now machine.old turn.now) }
 {
     if let Err(fault) = machine.turn(turn.ticks, turn.steps) {
         return Err(turn_fault(fault));
@@ -79,17 +57,22 @@ fn run_turn<S: Shelf>(
     }
 }
 
-/// Makes the turns, and adds the text of each event to the log.
-fn run<S: Shelf>(
+/// Runs the turns, and adds the text of each event to the log, which was empty.
+fn run_schedule<S: Shelf>(
     alloc: Global,
     shelf: &mut S,
     out: &str,
     machine: &mut Machine,
     turns: &[Turn],
 ) -> Result<(), Fault>
+    requires { HasFiles (S.state shelf.old) out.now (run_files [] [] []) }
     ensures ran { OnOk result (run_from machine.old turns.now ≡ Some machine.new) }
-    ensures logged { OnOk result (Logs (S.state shelf.old) (S.state shelf.new) out.now turns.now) }
-    ensures ends { IfErr result (RunEnds (S.state shelf.old) (S.state shelf.new) out.now machine.old turns.now) }
+    ensures logged { OnOk result (HasFiles (S.state shelf.new) out.now (run_files (log_text
+        (idle_events turns.now)) [] [])) }
+    ensures change { WritesOnly out.now replay_outputs (S.state shelf.old) (S.state shelf.new) }
+    ensures counts { OnOk result (NoWriteFailed (S.state shelf.old) (S.state shelf.new)) }
+    ensures fails { IfErr result (RunFails (S.state shelf.old)
+        (S.state shelf.new) out.now machine.old turns.now) }
 {
     for turn in turns {
         run_turn(alloc, shelf, out, machine, turn)?;
@@ -97,7 +80,7 @@ fn run<S: Shelf>(
     Ok(())
 }
 
-/// Writes memory and disk.
+/// Writes memory and then the disk, after the log.
 fn write_last<S: Shelf>(
     alloc: Global,
     shelf: &mut S,
@@ -105,51 +88,58 @@ fn write_last<S: Shelf>(
     ram: &[u8],
     disk: &[u8],
 ) -> Result<(), ShelfFault>
-    ensures ok { OnOk result (WritesLast (S.state shelf.old) (S.state shelf.new) out.now ram.now disk.now) }
-    ensures err { OnErr result (WritesLastPart (S.state shelf.old) (S.state shelf.new) out.now ram.now disk.now) }
-    ensures cause { IsErrOf result ShelfFault.Failed → WriteFailed (S.state shelf.old) (S.state shelf.new) out.now }
+    ensures ok { OnOk result (WritesLast (S.state shelf.old)
+        (S.state shelf.new) out.now ram.now disk.now) }
+    ensures err { OnErr result (WritesLastPart (S.state shelf.old)
+        (S.state shelf.new) out.now ram.now disk.now) }
+    ensures change { WritesOnly out.now replay_outputs (S.state shelf.old) (S.state shelf.new) }
+    ensures counts { OnOk result (NoWriteFailed (S.state shelf.old) (S.state shelf.new)) }
+    ensures cause { IsErrOf result ShelfFault.Failed
+        → WriteFailed out.now replay_outputs (S.state shelf.old) (S.state shelf.new) }
 {
     append_to(alloc, shelf, out, Output::Ram, ram)?;
     append_to(alloc, shelf, out, Output::Disk, disk)
 }
 
 /// Runs what is ready, and writes the files. Gives the summary's line.
-fn carry_out<S: Shelf>(
+fn run_prepared<S: Shelf>(
     alloc: Global,
     shelf: &mut S,
     out: &str,
     ready: Ready,
-    disk: &[u8],
 ) -> Result<String, Fault>
-    ensures whole { IfOk result (λ line. CarriesOut (S.state shelf.old) (S.state shelf.new) out.now ready.machine ready.turns.items disk.now (string_bytes line)) }
-    ensures ends { IfErr result (CarryEnds (S.state shelf.old) (S.state shelf.new) out.now ready.machine ready.turns.items disk.now) }
+    ensures done { IfOk result (λ line. RunDone
+        (S.state shelf.new) out.now ready.machine ready.turns.items (string_bytes line)) }
+    ensures fails { IfErr result (PreparedFails (S.state shelf.old)
+        (S.state shelf.new) out.now ready.machine ready.turns.items) }
+    ensures change { WritesOnly out.now replay_outputs (S.state shelf.old) (S.state shelf.new) }
+    ensures counts { OnOk result (NoWriteFailed (S.state shelf.old) (S.state shelf.new)) }
 {
     let Ready { mut machine, turns } = ready;
-    if let Err(fault) = create_all(alloc, shelf, out) {
+    if let Err(fault) = create_all(alloc, shelf, out, &REPLAY_OUTPUTS) {
         return Err(write_fault(fault));
     }
-    run(alloc, shelf, out, &mut machine, &turns)?;
-    if let Err(fault) = write_last(alloc, shelf, out, machine.memory(), disk) {
+    run_schedule(alloc, shelf, out, &mut machine, &turns)?;
+    if let Err(fault) = write_last(alloc, shelf, out, machine.memory(), machine.disk()) {
         return Err(write_fault(fault));
     }
     let line = summary(alloc, &turns)?;
     Ok(line)
 }
 
-/// Carries out a replay: reads its files, runs its schedule and writes its files. Gives the summary's line.
-pub fn replay<S: Shelf>(
-    alloc: Global,
-    shelf: &mut S,
-    command: &Command<'_>,
-) -> Result<String, Fault>
-    ensures whole { IfOk result (λ line. Replays (replay_of command.now) (S.state shelf.old) (S.state shelf.new) (string_bytes line)) }
-    ensures ends { IfErr result (EndsBy (replay_of command.now) (S.state shelf.old) (S.state shelf.new)) }
+/// Carries out a replay: reads its files, runs its schedule and writes its files. Gives the
+/// summary's line.
+pub fn replay<S: Shelf>(alloc: Global, shelf: &mut S, words: &Replay<'_>) -> Result<String, Fault>
+    ensures done { IfOk result (λ line. Completes (replay_command (replay_of words.now))
+        (S.state shelf.old) (S.state shelf.new) (string_bytes line)) }
+    ensures fails { IfErr result (FailsBy (replay_command (replay_of words.now))
+        (S.state shelf.old) (S.state shelf.new)) }
     ensures line { IfErr result HasLine }
 {
-    let inputs = match read_all(alloc, shelf, command) {
+    let inputs = match read_all(alloc, shelf, words) {
         Ok(inputs) => inputs,
         Err(fault) => return Err(read_fault(fault)),
     };
-    let ready = prepare(alloc, &inputs)?;
-    carry_out(alloc, shelf, command.out, ready, &inputs.disk)
+    let ready = prepare(alloc, DEFAULT_MIB, inputs)?;
+    run_prepared(alloc, shelf, words.out, ready)
 }

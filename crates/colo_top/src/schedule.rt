@@ -22,7 +22,8 @@ pub struct Turn {
 /// What follows the word of a primary turn.
 fn after_primary(text: &[u8]) -> Option<&[u8]>
     ensures word { IfSome result (λ rest. text.now ≡ 80 ∷ (32 ∷ rest.now)) }
-    ensures each { (rest : List ℕ) → text.now ≡ 80 ∷ (32 ∷ rest) → IsSomeAnd result (λ r. r.now ≡ rest) }
+    ensures each { (rest : List ℕ) → text.now ≡ 80 ∷ (32 ∷ rest)
+        → IsSomeAnd result (λ r. r.now ≡ rest) }
 {
     if text.starts_with(b"P ") {
         Some(&text[2..])
@@ -31,11 +32,14 @@ fn after_primary(text: &[u8]) -> Option<&[u8]>
     }
 }
 
-/// The line that the text begins with, and what follows it; `None` exactly where it begins with no good line.
+/// The line that the text begins with, and what follows it; `None` exactly where it begins with no
+/// good line.
 fn read_line(text: &[u8]) -> Option<(Turn, &[u8])>
     ensures good { IfSome result (λ r. IsGood r.0) }
     ensures written { IfSome result (λ r. text.now ≡ line_text r.0 ++ r.1.now) }
-    ensures each { (turn : Turn) (after : List ℕ) → IsGood turn → text.now ≡ line_text turn ++ after → IsSomeAnd result (λ r. (r.0 ≡ turn) × (r.1.now ≡ after)) }
+    ensures each { (turn : Turn) (after : List ℕ) → IsGood turn
+        → text.now ≡ line_text turn ++ after
+        → IsSomeAnd result (λ r. (r.0 ≡ turn) × (r.1.now ≡ after)) }
 {
     let rest = after_primary(text)?;
     let (ticks, rest) = number_before(rest, b' ', u32::MAX)?;
@@ -56,7 +60,8 @@ fn read_line(text: &[u8]) -> Option<(Turn, &[u8])>
 /// The turns whose schedule the text is; `None` exactly where it is that of none.
 pub fn read_schedule(alloc: Global, text: &[u8]) -> Result<Option<Vec<Turn>>, AllocError>
     ensures good { IfOk result (λ r. IfSome r (λ turns. IsSchedule turns.items text.now)) }
-    ensures none { IfOk result (λ r. IfNone r ((turns : List Turn) → IsSchedule turns text.now → ⊥)) }
+    ensures none { IfOk result (λ r. IfNone r ((turns : List Turn) → IsSchedule turns text.now
+        → ⊥)) }
 {
     let mut turns = Vec::new(alloc);
     let mut rest = text;

@@ -1,11 +1,9 @@
-//! The top call over files in memory: what worked runs leave, each status with its line, and calls that fail.
+//! The top call over files in memory: what worked runs leave, and each status with its line.
 
 mod programs;
 
 use crate::colo;
-use colo_base::{
-    MemoryLink, MemoryShelf, MemorySink, NoMemory, ScriptClock, Shelf, ShelfFault, Sink,
-};
+use colo_base::{MemoryLink, MemoryShelf, MemorySink, NoMemory, ScriptClock};
 use programs::{Change, HEADERS, PROGRAMS, Part};
 use std::alloc::Global;
 use std::process::Abort;
@@ -44,12 +42,12 @@ fn files(alloc: Global, image: &[u8], schedule: &str) -> Result<MemoryShelf, NoM
     Ok(shelf)
 }
 
-/// Carries out the words, and gives the status.
-fn carry_out<S: Shelf, O: Sink>(
+/// Calls the program with the words, and gives the status.
+fn call(
     alloc: Global,
     words: &[&str],
-    shelf: &mut S,
-    out: &mut O,
+    shelf: &mut MemoryShelf,
+    out: &mut MemorySink,
 ) -> Result<u8, NoMemory> {
     let mut texts = Vec::new(alloc);
     for word in words {
@@ -60,16 +58,16 @@ fn carry_out<S: Shelf, O: Sink>(
     Ok(colo(alloc, &texts, shelf, &mut link, &mut clock, out))
 }
 
-/// Carries out the words, and asserts the status and what is printed.
-fn ends<S: Shelf>(
+/// Calls the program with the words, and asserts the status and what is printed.
+fn ends(
     rt: &(impl Abort + AllocGlobal),
     words: &[&str],
-    shelf: &mut S,
+    shelf: &mut MemoryShelf,
     status: u8,
     line: &str,
 ) -> Result<(), NoMemory> {
     let mut out = MemorySink::new(rt.alloc());
-    let ended = carry_out(rt.alloc(), words, shelf, &mut out)?;
+    let ended = call(rt.alloc(), words, shelf, &mut out)?;
     assert_eq!(rt; ended, status, "{line}");
     assert_eq!(rt; out.bytes(), line.as_bytes(), "{line}");
     Ok(())
@@ -80,8 +78,9 @@ fn are_zeros(bytes: &[u8]) -> bool {
     bytes.iter().all(|byte| *byte == 0)
 }
 
-/// What follows the words, the lowest byte of each first; `None` where the bytes don't begin with them.
-fn behind_words<'a>(bytes: &'a [u8], words: &[u32]) -> Option<&'a [u8]> {
+/// What follows the words, the lowest byte of each first; `None` where the bytes don't begin with
+/// them.
+fn after_words<'a>(bytes: &'a [u8], words: &[u32]) -> Option<&'a [u8]> {
     let mut rest = bytes;
     for word in words {
         rest = rest.strip_prefix(&word.to_le_bytes())?;
@@ -90,10 +89,10 @@ fn behind_words<'a>(bytes: &'a [u8], words: &[u32]) -> Option<&'a [u8]> {
 }
 
 /// What follows a part; `None` where the bytes don't begin with it.
-fn behind_part<'a>(bytes: &'a [u8], part: &Part) -> Option<&'a [u8]> {
+fn after_part<'a>(bytes: &'a [u8], part: &Part) -> Option<&'a [u8]> {
     let (gap, rest) = bytes.split_at_checked(part.0)?;
     if are_zeros(gap) {
-        behind_words(rest, part.1)
+        after_words(rest, part.1)
     } else {
         None
     }
@@ -103,7 +102,7 @@ fn behind_part<'a>(bytes: &'a [u8], part: &Part) -> Option<&'a [u8]> {
 fn is_memory(bytes: &[u8], parts: &[Part]) -> bool {
     let mut rest = bytes;
     for part in parts {
-        let Some(after) = behind_part(rest, part) else {
+        let Some(after) = after_part(rest, part) else {
             return false;
         };
         rest = after;
@@ -113,7 +112,7 @@ fn is_memory(bytes: &[u8], parts: &[Part]) -> bool {
 
 /// Whether a file has these bytes.
 fn has(shelf: &MemoryShelf, name: &str, bytes: &[u8]) -> bool {
-    shelf.contents(name).is_some_and(|held| held == bytes)
+    shelf.contents(name).is_some_and(|file| file == bytes)
 }
 
 /// Whether the file of the memory that was left has these parts.
@@ -157,199 +156,38 @@ fn programs_leave_their_memory(rt: HostRuntime) -> Result<(), Fail> {
     Ok(())
 }
 
-/// An image with one or two changes, and the line that says why it is refused.
-type Refused = (&'static [Change], &'static str);
-
-/// The cases of the loader from the second on.
-const REFUSED: [Refused; 14] = [
-    (&[(0, 0x464C_457E)], "image: 2\n"),
-    (&[(1, 0x0001_0102)], "image: 3\n"),
-    (&[(1, 0x0001_0201)], "image: 4\n"),
-    (&[(4, 0x00F3_0001)], "image: 5\n"),
-    (&[(4, 0x0003_0002)], "image: 6\n"),
-    (&[(10, 0x0028_0034)], "image: 7\n"),
-    (&[(7, 57)], "image: 8\n"),
-    (&[(17, 5)], "image: 9\n"),
-    (&[(16, 0x7FFF_FFFC)], "image: 10\n"),
-    (&[(16, 0x80FF_FFFC), (18, 5)], "image: 10\n"),
-    (&[(13, 2)], "image: 11\n"),
-    (&[(18, 0), (17, 0)], "image: 11\n"),
-    (&[(6, 0x8000_0002)], "image: 12\n"),
-    (&[(6, 0x8100_0000)], "image: 12\n"),
-];
-
-#[test]
-fn images_are_refused_by_their_case(rt: HostRuntime) -> Result<(), Fail> {
-    let short = [0x7F; 51];
-    let mut shelf = files(rt.alloc(), &short, THREE_TURNS)?;
-    ends(&rt, &REPLAY, &mut shelf, 2, "image: 1\n")?;
-    for (changes, line) in REFUSED {
-        let bytes = image(rt.alloc(), changes, &JUMP)?;
-        let mut shelf = files(rt.alloc(), &bytes, "not tested")?;
-        shelf.set("disk", b"not tested")?;
-        ends(&rt, &REPLAY, &mut shelf, 2, line)?;
-        assert!(rt; shelf.contents("out.log").is_none());
-    }
-    Ok(())
-}
-
-/// Words that spell no command.
-const MISSPELLED: [&[&str]; 8] = [
-    &[],
-    &["--help"],
-    &["replay"],
-    &["replay", "image", "disk", "client", "schedule"],
-    &[
-        "replay", "image", "disk", "client", "schedule", "out", "more",
-    ],
-    &["Replay", "image", "disk", "client", "schedule", "out"],
-    &["replay", "image", "", "client", "schedule", "out"],
-    &["replay", "image", "disk", "client", "schedule", "-out"],
-];
-
-/// Texts that are no schedules of primary turns.
-const NO_SCHEDULES: [&str; 11] = [
-    "P 1 2 0 0\n",
-    "S 1 0 0 0\n",
-    "P 1 0 0 0",
-    "P 1 0 0 0\n\n",
-    "P 1 0 0\n",
-    "P 1 0 0 0 0\n",
-    "P 1  0 0 0\n",
-    "P 01 0 0 0\n",
-    "P 4294967296 0 0 0\n",
-    "P 1 0 257 0\n",
-    "P 1 0 0 100001\n",
-];
-
 /// Loads from the network device: lui x5, 0x10001, and lw x10, 0(x5).
 const DEVICE: [u32; 2] = [0x1000_12B7, 0x0002_A503];
 
 #[test]
-fn other_ends_print_their_line(rt: HostRuntime) -> Result<(), Fail> {
-    let jump = image(rt.alloc(), &[], &JUMP)?;
-    let mut shelf = files(rt.alloc(), &jump, "")?;
-    for words in MISSPELLED {
-        ends(&rt, words, &mut shelf, 1, "usage\n")?;
-    }
-    let missing = ["replay", "image", "missing", "client", "schedule", "out"];
+fn each_status_prints_its_line(rt: HostRuntime) -> Result<(), Fail> {
+    let small = image(rt.alloc(), &[(16, 0x80FF_FFFC), (18, 5)], &JUMP)?;
+    let mut shelf = files(rt.alloc(), &small, "not tested")?;
+    ends(&rt, &["replay", "a"], &mut shelf, 1, "usage\n")?;
+    ends(&rt, &REPLAY, &mut shelf, 2, "image: 10\n")?;
+    let missing = ["replay", "missing", "disk", "client", "schedule", "out"];
     ends(&rt, &missing, &mut shelf, 6, "read failed\n")?;
-    for schedule in NO_SCHEDULES {
-        shelf.set("schedule", schedule.as_bytes())?;
-        ends(&rt, &REPLAY, &mut shelf, 9, "not built\n")?;
-    }
-    shelf.set("schedule", b"P 4294967295 1 256 100000\n")?;
+    let device = image(rt.alloc(), &[(17, 8), (18, 8)], &DEVICE)?;
+    let mut shelf = files(rt.alloc(), &device, "P 0 0 0 1\nP 0 0 0 1\nP 0 0 0 0\n")?;
+    ends(&rt, &REPLAY, &mut shelf, 9, "not built\n")?;
+    assert!(rt; has(&shelf, "out.log", b"P 0 0 0 1 : - 0\n"));
+    shelf.fail(15)?;
+    ends(&rt, &REPLAY, &mut shelf, 7, "write failed\n")?;
+    Ok(())
+}
+
+#[test]
+fn the_mute_image_is_written_and_runs(rt: HostRuntime) -> Result<(), Fail> {
+    let mut shelf = files(rt.alloc(), b"", THREE_TURNS)?;
+    let words = ["image", "mute", "image"];
+    ends(&rt, &words, &mut shelf, 0, "bytes 88\n")?;
     ends(
         &rt,
         &REPLAY,
         &mut shelf,
         0,
-        "lines 1 released 0 captured 0\n",
+        "lines 3 released 0 captured 0\n",
     )?;
-    shelf.set("client", &[0; 4])?;
-    ends(&rt, &REPLAY, &mut shelf, 9, "not built\n")?;
-    shelf.set("client", b"")?;
-    shelf.set("disk", &[0; 513])?;
-    ends(&rt, &REPLAY, &mut shelf, 9, "not built\n")?;
-    let device = image(rt.alloc(), &[(17, 8), (18, 8)], &DEVICE)?;
-    let mut shelf = files(rt.alloc(), &device, "P 0 0 0 1\nP 0 0 0 1\nP 0 0 0 0\n")?;
-    ends(&rt, &REPLAY, &mut shelf, 9, "not built\n")?;
-    assert!(rt; has(&shelf, "out.log", b"P 0 0 0 1 : - 0\n"));
-    assert!(rt; has(&shelf, "out.ram", b""));
-    assert!(rt; has(&shelf, "out.disk", b""));
-    Ok(())
-}
-
-/// A call of the shelf that fails, the status, and how long the log, the memory's and the disk's files then are.
-type Break = (u64, u8, Option<usize>, Option<usize>, Option<usize>);
-
-/// The calls of a run of three turns: four fetches, five creates, and five appends, of which three are to the log.
-const BREAKS: [Break; 15] = [
-    (1, 6, None, None, None),
-    (2, 6, None, None, None),
-    (3, 6, None, None, None),
-    (4, 6, None, None, None),
-    (5, 7, None, None, None),
-    (6, 7, Some(0), None, None),
-    (7, 7, Some(0), None, None),
-    (8, 7, Some(0), None, None),
-    (9, 7, Some(0), Some(0), None),
-    (10, 7, Some(0), Some(0), Some(0)),
-    (11, 7, Some(17), Some(0), Some(0)),
-    (12, 7, Some(34), Some(0), Some(0)),
-    (13, 7, Some(51), Some(0), Some(0)),
-    (14, 7, Some(51), Some(16_777_216), Some(0)),
-    (15, 0, Some(51), Some(16_777_216), Some(512)),
-];
-
-/// How long a file is.
-fn length_of(shelf: &MemoryShelf, name: &str) -> Option<usize> {
-    let bytes = shelf.contents(name)?;
-    Some(bytes.len())
-}
-
-/// The line of a run of three turns that ends with a status.
-fn line_of(status: u8) -> &'static str {
-    match status {
-        6 => "read failed\n",
-        7 => "write failed\n",
-        _ => "lines 3 released 0 captured 0\n",
-    }
-}
-
-#[test]
-fn a_failing_call_of_the_shelf_ends_the_run(rt: HostRuntime) -> Result<(), Fail> {
-    let jump = image(rt.alloc(), &[], &JUMP)?;
-    for (call, status, log, ram, disk) in BREAKS {
-        let mut shelf = files(rt.alloc(), &jump, THREE_TURNS)?;
-        shelf.fail(call)?;
-        ends(&rt, &REPLAY, &mut shelf, status, line_of(status))?;
-        assert_eq!(rt; length_of(&shelf, "out.log"), log, "at {call}");
-        assert_eq!(rt; length_of(&shelf, "out.ram"), ram, "at {call}");
-        assert_eq!(rt; length_of(&shelf, "out.disk"), disk, "at {call}");
-    }
-    Ok(())
-}
-
-/// A shelf that has no memory for a file.
-#[derive(Drop)]
-struct Full;
-
-impl Shelf for Full {
-    ghost use Rattle.std.specs.Prelude.{false, None};
-
-    ghost state = { λ shelf. record {
-      told = false;
-      contents = λ name. None;
-      fetch_faults = λ name. 0;
-      write_faults = λ name. 0;
-    } };
-
-    fn fetch(&mut self, _name: &str, _into: &mut Vec<u8>) -> Result<(), ShelfFault> {
-        Err(ShelfFault::NoMemory)
-    }
-
-    fn create(&mut self, _name: &str) -> Result<(), ShelfFault> {
-        Err(ShelfFault::NoMemory)
-    }
-
-    fn append(&mut self, _name: &str, _bytes: &[u8]) -> Result<(), ShelfFault> {
-        Err(ShelfFault::NoMemory)
-    }
-}
-
-#[test]
-fn a_failing_put_and_want_of_memory(rt: HostRuntime) -> Result<(), Fail> {
-    let jump = image(rt.alloc(), &[], &JUMP)?;
-    let mut shelf = files(rt.alloc(), &jump, THREE_TURNS)?;
-    let mut out = MemorySink::new(rt.alloc());
-    out.fail(1)?;
-    out.fail(2)?;
-    assert_eq!(rt; carry_out(rt.alloc(), &REPLAY, &mut shelf, &mut out)?, 7);
-    assert_eq!(rt; length_of(&shelf, "out.disk"), Some(512));
-    shelf.set("disk", b"")?;
-    assert_eq!(rt; carry_out(rt.alloc(), &REPLAY, &mut shelf, &mut out)?, 9);
-    assert_eq!(rt; out.bytes(), b"".as_slice());
-    ends(&rt, &REPLAY, &mut Full, 8, "no memory\n")?;
+    assert!(rt; leaves(&shelf, &[(0, &JUMP)]));
     Ok(())
 }

@@ -1,12 +1,17 @@
 //! The words of a command line.
 
-ghost use Rattle.std.specs.Prelude.{◌≡◌, ◌↔◌, codes, All, IsTrue, IfSome, IfNone, string_bytes};
-ghost use Rattle.colo_top.specs.Words.{IsName, Replay, Spells, texts};
-ghost use Rattle.colo_top.specs.Command.{replay_of};
+ghost use Rattle.std.specs.Prelude.{◌≡◌, option_map, string_bytes};
+ghost use Rattle.std.specs.List.{list_all};
+ghost use Rattle.std.specs.Str.{bytes_eq};
+ghost use Rattle.colo_top.specs.Command.{command_of};
+ghost use Rattle.colo_top.specs.Words.{demo_of, is_name, read_image, read_replay, read_verb, read_words, texts};
 
-/// The words of `replay`: the names of four files that are read, and what the files that are written are named after.
+use crate::demo::Demo;
+
+/// The words of `replay`: the names of four files that are read, and what the files that are
+/// written are named after.
 #[derive(Clone, Copy)]
-pub struct Command<'a> {
+pub struct Replay<'a> {
     /// An ELF file.
     pub image: &'a str,
     /// The disk's bytes.
@@ -19,9 +24,27 @@ pub struct Command<'a> {
     pub out: &'a str,
 }
 
+/// The words of `image`: a demo image, and the name of the file that is written.
+#[derive(Clone, Copy)]
+pub struct WriteImage<'a> {
+    /// The image.
+    pub demo: Demo,
+    /// The written file.
+    pub out: &'a str,
+}
+
+/// A command.
+#[derive(Clone, Copy)]
+pub enum Command<'a> {
+    /// Runs a schedule.
+    Replay(Replay<'a>),
+    /// Writes a demo image.
+    WriteImage(WriteImage<'a>),
+}
+
 /// Whether the word is a name: it isn't empty and doesn't begin with `-`.
 fn is_name(word: &str) -> bool
-    ensures { IsTrue result ↔ IsName word.now }
+    ensures { result ≡ is_name word.now }
 {
     match word.as_bytes() {
         [] => false,
@@ -29,39 +52,82 @@ fn is_name(word: &str) -> bool
     }
 }
 
-/// Whether the word is the command's.
-fn is_replay(word: &str) -> bool
-    ensures { IsTrue result ↔ (word.now ≡ codes "replay") }
-{
-    word == "replay"
-}
-
 /// Whether each word is a name.
-fn are_names(names: &[String]) -> bool
-    ensures { IsTrue result ↔ All (λ name. IsName (string_bytes name)) names.now }
+fn are_names(words: &[String]) -> bool
+    ensures { result ≡ list_all (λ word. is_name (string_bytes word)) words.now }
 {
-    names.iter().all(|name| is_name(name.as_str()))
+    words.iter().all(|word| is_name(word.as_str()))
 }
 
-/// The command that the words spell; `None` exactly where they spell none.
-pub fn read_words(words: &[String]) -> Option<Command<'_>>
-    ensures spelled { IfSome result (λ command. Spells (texts words.now) (replay_of command)) }
-    ensures each { IfNone result ((command : Replay) → Spells (texts words.now) command → ⊥) }
+/// Whether the word is this one.
+fn is_word(word: &str, wanted: &str) -> bool
+    ensures { result ≡ bytes_eq word.now wanted.now }
 {
-    let [verb, image, disk, client, schedule, out] = words else {
+    word == wanted
+}
+
+/// What follows `replay`: five names.
+fn read_replay(names: &[String]) -> Option<Command<'_>>
+    ensures { option_map command_of result ≡ read_replay (texts names.now) }
+{
+    let [image, disk, client, schedule, out] = names else {
         return None;
     };
-    if !is_replay(verb.as_str()) {
-        return None;
-    }
-    if !are_names(&words[1..]) {
-        return None;
-    }
-    Some(Command {
+    Some(Command::Replay(Replay {
         image: image.as_str(),
         disk: disk.as_str(),
         client: client.as_str(),
         schedule: schedule.as_str(),
         out: out.as_str(),
-    })
+    }))
+}
+
+/// The demo image of this name.
+fn demo_of(name: &str) -> Option<Demo>
+    ensures { result ≡ demo_of name.now }
+{
+    if is_word(name, "mute") {
+        Some(Demo::Mute)
+    } else {
+        None
+    }
+}
+
+/// What follows `image`: the image's name, and a name.
+fn read_image(names: &[String]) -> Option<Command<'_>>
+    ensures { option_map command_of result ≡ read_image (texts names.now) }
+{
+    let [name, out] = names else {
+        return None;
+    };
+    let demo = demo_of(name.as_str())?;
+    Some(Command::WriteImage(WriteImage {
+        demo,
+        out: out.as_str(),
+    }))
+}
+
+/// The command that a first word and the names after it spell.
+fn read_verb<'a>(verb: &str, names: &'a [String]) -> Option<Command<'a>>
+    ensures { option_map command_of result ≡ read_verb verb.now (texts names.now) }
+{
+    if is_word(verb, "replay") {
+        read_replay(names)
+    } else if is_word(verb, "image") {
+        read_image(names)
+    } else {
+        None
+    }
+}
+
+/// The command that the words spell; `None` exactly where they spell none.
+pub fn read_words(words: &[String]) -> Option<Command<'_>>
+    ensures { option_map command_of result ≡ read_words (texts words.now) }
+{
+    let (verb, names) = words.split_first()?;
+    if are_names(names) {
+        read_verb(verb.as_str(), names)
+    } else {
+        None
+    }
 }

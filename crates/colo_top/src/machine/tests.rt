@@ -1,10 +1,10 @@
 //! A machine that starts and makes steps.
 
-use super::{BootFault, Machine, TurnFault};
+use super::{Machine, TurnFault};
 use std::alloc::{AllocError, Global};
 use std::test::Fail;
 
-/// An ELF header and one program header: 128 bytes behind them go to 0x80000000.
+/// An ELF header and one program header: 128 bytes after them go to 0x80000000.
 const HEADERS: [u8; 84] = [
     0x7F, 0x45, 0x4C, 0x46, 1, 1, 1, 0, 0, 0, 0, 0, 0, 0, 0, 0, // ident
     2, 0, 243, 0, 1, 0, 0, 0, 0, 0, 0, 0x80, 52, 0, 0, 0, // type, machine, version, entry, phoff
@@ -50,7 +50,7 @@ const SOFTWARE_INTERRUPT: [u32; 32] = [
     0,
 ];
 
-/// The line, the cause, the address behind the store, and the 13 steps before.
+/// The line, the cause, the address after the store, and the 13 steps before.
 const FOUND: [u8; 16] = [1, 0, 0, 0, 3, 0, 0, 0x80, 0x24, 0, 0, 0x80, 13, 0, 0, 0];
 
 /// The image of these words.
@@ -64,25 +64,9 @@ fn image(alloc: Global, words: &[u32; 32]) -> Result<Vec<u8>, AllocError> {
 }
 
 #[test]
-fn a_jump_to_itself_makes_steps(rt: HostRuntime) -> Result<(), Fail> {
-    let mut words = [0; 32];
-    words[0] = 0x6F;
-    let jump = image(rt.alloc(), &words)?;
-    let mut machine = Machine::boot(rt.alloc(), &jump)?;
-    assert_eq!(rt; machine.turn(5, 5), Ok(()));
-    assert_eq!(rt; machine.memory().len(), 0x100_0000);
-    assert!(rt; machine.memory().starts_with(&[0x6F, 0, 0, 0, 0, 0, 0, 0]));
-    match Machine::boot(rt.alloc(), &HEADERS[..51]) {
-        Ok(_) => assert!(rt; false),
-        Err(fault) => assert!(rt; matches!(fault, BootFault::Elf(case) if case.number == 1)),
-    }
-    Ok(())
-}
-
-#[test]
 fn a_program_raises_its_own_interrupt(rt: HostRuntime) -> Result<(), Fail> {
     let program = image(rt.alloc(), &SOFTWARE_INTERRUPT)?;
-    let mut machine = Machine::boot(rt.alloc(), &program)?;
+    let mut machine = Machine::boot(rt.alloc(), 16, &program, Vec::new(rt.alloc()))?;
     assert_eq!(rt; machine.turn(0, 19), Ok(()));
     let found = machine.memory().get(256..272).ok_or("memory")?;
     assert!(rt; found.starts_with(&FOUND));

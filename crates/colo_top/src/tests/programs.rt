@@ -1,7 +1,7 @@
 //! Images that are run, and the memory that each leaves.
 
-/// The file header and the program header of an image: one segment of four bytes at 0x80000000, which stand
-/// behind the headers.
+/// The file header and the program header of an image: one segment of four bytes at 0x80000000,
+/// which stand after the headers.
 pub const HEADERS: [u32; 21] = [
     0x464C_457F, // 7F 45 4C 46
     0x0001_0101, // 32 bits, little-endian, version 1
@@ -32,8 +32,8 @@ pub type Change = (usize, u32);
 /// So many bytes of zeros, and the words that follow them.
 pub type Part = (usize, &'static [u32]);
 
-/// An image with its changes of the headers and the words behind them, the schedule that it runs by, the line that is
-/// printed, and the parts of memory that it leaves, up to the zeros at the end.
+/// An image with its changes of the headers and the words after them, the schedule that it runs by,
+/// the line that is printed, and the parts of memory that it leaves, up to the zeros at the end.
 #[derive(Clone, Copy)]
 pub struct Program {
     pub changes: &'static [Change],
@@ -43,8 +43,9 @@ pub struct Program {
     pub leaves: &'static [Part],
 }
 
-/// LUI, AUIPC, ADDI, LW, SW and JAL at their edges: the least and greatest immediates, sums that wrap, x0 as the target,
-/// the last word of memory, and a jump as far as one goes to a word that the program has stored.
+/// LUI, AUIPC, ADDI, LW, SW and JAL at their edges: the least and greatest immediates, sums that
+/// wrap, x0 as the target, the last word of memory, and a jump as far as one goes to a word that
+/// the program has stored.
 const SIX_ROWS: [u32; 42] = [
     0x8000_10B7, // lui x1, 0x80001
     0xFFFF_F137, // lui x2, 0xfffff
@@ -90,8 +91,9 @@ const SIX_ROWS: [u32; 42] = [
     0x6F, // jal x0, 0
 ];
 
-/// A program whose handler at 0x80000060 writes down mcause, mepc, mtval, mstatus and minstret: of two words that are no
-/// instructions, ECALL, a misaligned store, a load of what isn't there, and the timer's interrupt, with mtime.
+/// A program whose handler at 0x80000060 writes down mcause, mepc, mtval, mstatus and minstret: of
+/// two words that are no instructions, ECALL, a misaligned store, a load of what isn't there, and
+/// the timer's interrupt, with mtime.
 const TRAPS: [u32; 44] = [
     0x8000_0437, // lui x8, 0x80000
     0x1004_0493, // addi x9, x8, 256
@@ -174,8 +176,8 @@ const TRAPS_LOG: [u32; 31] = [
     30, // mtime
 ];
 
-/// The second program header of an image, and the segments: three words at 0x80000000, and one at 0x80000004 that has
-/// four zeros behind it in memory.
+/// The second program header of an image, and the segments: three words at 0x80000000, and one at
+/// 0x80000004 that has four zeros after it in memory.
 const TWO_SEGMENTS: [u32; 12] = [
     1,
     128,

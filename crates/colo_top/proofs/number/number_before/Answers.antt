@@ -1,6 +1,6 @@
 -- No digit ends the word, so that the word before the end is the number's.
 use Rattle.std.proofs.Common.{arith}
-use Rattle.colo_top.proofs.Numbers.{apart_decimal, not_some}
+use Rattle.colo_top.proofs.NumberLemmas.{apart_decimal, not_some}
 use Rattle.colo_top.proofs.number.number_before.Goals as goal
 
 pub returns-in_err-word-clause-each : goal.returns-in_err-word-clause-each

@@ -1,5 +1,5 @@
 -- The first `end` stands where the word before it stops.
-use Rattle.colo_top.proofs.Numbers.{first_place, parts_at, some_place}
+use Rattle.colo_top.proofs.NumberLemmas.{first_place, parts_at, some_place}
 use Rattle.colo_top.proofs.number.split_once.Goals as goal
 
 pub returns-then-byte-end-clause-each : goal.returns-then-byte-end-clause-each

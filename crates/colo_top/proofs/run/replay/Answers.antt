@@ -1,20 +1,21 @@
--- The files were read, and what they make was carried out.
-use Rattle.std.proofs.Common.{ℕ, List, subst}
-use Rattle.std.proofs.lemmas.Result.{IfOk-weaker, MatchResult-weaker}
-use Rattle.std.specs.String.{string_bytes}
+-- The files were read, and what they make was run.
 use Rattle.colo_top.specs.Command.{replay_of}
-use Rattle.colo_top.specs.InputTexts.{texts_of}
-use Rattle.colo_top.specs.RunSteps.{CarriesOut, CarryEnds}
-use Rattle.colo_top.proofs.Replaying.{whole_from, ends_from}
+use Rattle.colo_top.specs.ReadBytes.{texts_of}
+use Rattle.colo_top.proofs.ReplayLemmas.{replay_done, replay_fails}
 use Rattle.colo_top.proofs.run.replay.Goals as goal
 
-pub returns-clause-whole : goal.returns-clause-whole
-returns-clause-whole g c =
-    IfOk-weaker c.carry_out.result _ _
-    (λ line h. whole_from (replay_of c.args.command.now) (g.S.Shelf.state c.args.shelf.now) (g.S.Shelf.state c.read_all.new.shelf) (g.S.Shelf.state c.carry_out.new.shelf) (texts_of c.in-Ok.inputs) c.in_ok-ready.ready.turns.items c.in_ok-ready.ready.machine c.in-Ok.ensures.read c.in-Ok.ensures.files c.in_ok-ready.ensures.ready (string_bytes line) (let P : List ℕ → Type 0 = λ disk. CarriesOut (g.S.Shelf.state c.read_all.new.shelf) (g.S.Shelf.state c.carry_out.new.shelf) c.args.command.now.out.now c.in_ok-ready.ready.machine c.in_ok-ready.ready.turns.items disk (string_bytes line) in subst P c.deref.ensures.value h))
-    c.carry_out.ensures.whole
+pub returns-clause-done : goal.returns-clause-done
+returns-clause-done g c =
+    replay_done (replay_of c.args.words.now) (g.S.Shelf.state c.args.shelf.now)
+    (g.S.Shelf.state c.read_all.new.shelf)
+    (texts_of c.in-Ok.inputs) c.in-Ok.ensures.read c.read_all.ensures.files c.read_all.ensures.writes c.in-Ok.ensures.counts
+    c.in_ok-ready.ready.turns.items c.in_ok-ready.ready.machine c.in_ok-ready.ensures.ready
+    (g.S.Shelf.state c.run_prepared.new.shelf) c.run_prepared.ensures.change c.run_prepared.result c.run_prepared.ensures.done c.run_prepared.ensures.counts
 
-pub returns-clause-ends : goal.returns-clause-ends
-returns-clause-ends g c =
-    MatchResult-weaker c.carry_out.result c.carry_out.ensures.ends (λ line h. h)
-    (λ fault h. ends_from (replay_of c.args.command.now) (g.S.Shelf.state c.args.shelf.now) (g.S.Shelf.state c.read_all.new.shelf) (g.S.Shelf.state c.carry_out.new.shelf) (texts_of c.in-Ok.inputs) c.in_ok-ready.ready.turns.items c.in_ok-ready.ready.machine c.in-Ok.ensures.read c.in-Ok.ensures.files c.in_ok-ready.ensures.ready fault (let P : List ℕ → Type 0 = λ disk. CarryEnds (g.S.Shelf.state c.read_all.new.shelf) (g.S.Shelf.state c.carry_out.new.shelf) c.args.command.now.out.now c.in_ok-ready.ready.machine c.in_ok-ready.ready.turns.items disk fault in subst P c.deref.ensures.value h))
+pub returns-clause-fails : goal.returns-clause-fails
+returns-clause-fails g c =
+    replay_fails (replay_of c.args.words.now) (g.S.Shelf.state c.args.shelf.now)
+    (g.S.Shelf.state c.read_all.new.shelf)
+    (texts_of c.in-Ok.inputs) c.in-Ok.ensures.read c.read_all.ensures.files c.read_all.ensures.writes c.in-Ok.ensures.counts
+    c.in_ok-ready.ready.turns.items c.in_ok-ready.ready.machine c.in_ok-ready.ensures.ready
+    (g.S.Shelf.state c.run_prepared.new.shelf) c.run_prepared.ensures.change c.run_prepared.result c.run_prepared.ensures.fails

@@ -1,64 +1,48 @@
--- Each clause speaks of one side of the three ways to end.
+-- The work was done or failed, and its line was put.
+use Rattle.std.proofs.Common.{List, ℕ, subst, string_bytes}
 use Rattle.colo_top.specs.Words.{texts}
-use Rattle.colo_top.proofs.Endings.{statuses, usage, usage_line, usage_files, done, case, unread, unwritten, no_memory, unbuilt, finds_case, finds_left_out, finds_stop, completes, other_files, usage_back}
+use Rattle.colo_top.specs.Top.{Call}
+use Rattle.colo_top.proofs.EndLemmas.{WasPut, ends_done, ends_failed}
 use Rattle.colo_top.proofs.top.colo.Goals as goal
 
-pub returns-clause-statuses : goal.returns-clause-statuses
-returns-clause-statuses g c =
-    statuses (texts c.args.words.now) (g.S.Shelf.state c.args.shelf.now) (g.S.Shelf.state c.end_of.new.shelf) (g.O.Sink.state c.args.out.now) (g.O.Sink.state c.end_of.new.out) c.end_of.result c.end_of.ensures.ended
+pub returns-in-Ok-clause-ends : goal.returns-in-Ok-clause-ends
+returns-in-Ok-clause-ends g c =
+    let call : Call = record {
+      words = texts c.args.words.now;
+      before = record {
+        shelf = g.S.Shelf.state c.args.shelf.now;
+        link = g.L.Link.state c.args.link.now;
+        clock = g.K.Clock.state c.args.clock.now;
+        sink = g.O.Sink.state c.args.out.now;
+      };
+      after = record {
+        shelf = g.S.Shelf.state c.run_command.new.shelf;
+        link = g.L.Link.state c.args.link.now;
+        clock = g.K.Clock.state c.args.clock.now;
+        sink = g.O.Sink.state c.put_line.new.out;
+      };
+      status = c.put_line.result;
+    } in
+    let P : List ℕ → Type 0 = λ text. WasPut call text in
+    ends_done call (string_bytes c.in-Ok.line) c.in-Ok.ensures.done
+    (subst P c.as_bytes.ensures.value c.put_line.ensures.either) c.put_line.ensures.goes_on
 
-pub returns-clause-usage : goal.returns-clause-usage
-returns-clause-usage g c =
-    (usage (texts c.args.words.now) (g.S.Shelf.state c.args.shelf.now) (g.S.Shelf.state c.end_of.new.shelf) (g.O.Sink.state c.args.out.now) (g.O.Sink.state c.end_of.new.out) c.end_of.result c.end_of.ensures.ended, usage_back (texts c.args.words.now) (g.S.Shelf.state c.args.shelf.now) (g.S.Shelf.state c.end_of.new.shelf) (g.O.Sink.state c.args.out.now) (g.O.Sink.state c.end_of.new.out) c.end_of.result c.end_of.ensures.ended)
-
-pub returns-clause-usage_line : goal.returns-clause-usage_line
-returns-clause-usage_line g c =
-    usage_line (texts c.args.words.now) (g.S.Shelf.state c.args.shelf.now) (g.S.Shelf.state c.end_of.new.shelf) (g.O.Sink.state c.args.out.now) (g.O.Sink.state c.end_of.new.out) c.end_of.result c.end_of.ensures.ended
-
-pub returns-clause-usage_files : goal.returns-clause-usage_files
-returns-clause-usage_files g c =
-    usage_files (texts c.args.words.now) (g.S.Shelf.state c.args.shelf.now) (g.S.Shelf.state c.end_of.new.shelf) (g.O.Sink.state c.args.out.now) (g.O.Sink.state c.end_of.new.out) c.end_of.result c.end_of.ensures.ended
-
-pub returns-clause-done : goal.returns-clause-done
-returns-clause-done g c =
-    done (texts c.args.words.now) (g.S.Shelf.state c.args.shelf.now) (g.S.Shelf.state c.end_of.new.shelf) (g.O.Sink.state c.args.out.now) (g.O.Sink.state c.end_of.new.out) c.end_of.result c.end_of.ensures.ended
-
-pub returns-clause-case : goal.returns-clause-case
-returns-clause-case g c =
-    case (texts c.args.words.now) (g.S.Shelf.state c.args.shelf.now) (g.S.Shelf.state c.end_of.new.shelf) (g.O.Sink.state c.args.out.now) (g.O.Sink.state c.end_of.new.out) c.end_of.result c.end_of.ensures.ended
-
-pub returns-clause-unread : goal.returns-clause-unread
-returns-clause-unread g c =
-    unread (texts c.args.words.now) (g.S.Shelf.state c.args.shelf.now) (g.S.Shelf.state c.end_of.new.shelf) (g.O.Sink.state c.args.out.now) (g.O.Sink.state c.end_of.new.out) c.end_of.result c.end_of.ensures.ended
-
-pub returns-clause-unwritten : goal.returns-clause-unwritten
-returns-clause-unwritten g c =
-    unwritten (texts c.args.words.now) (g.S.Shelf.state c.args.shelf.now) (g.S.Shelf.state c.end_of.new.shelf) (g.O.Sink.state c.args.out.now) (g.O.Sink.state c.end_of.new.out) c.end_of.result c.end_of.ensures.ended
-
-pub returns-clause-no_memory : goal.returns-clause-no_memory
-returns-clause-no_memory g c =
-    no_memory (texts c.args.words.now) (g.S.Shelf.state c.args.shelf.now) (g.S.Shelf.state c.end_of.new.shelf) (g.O.Sink.state c.args.out.now) (g.O.Sink.state c.end_of.new.out) c.end_of.result c.end_of.ensures.ended
-
-pub returns-clause-unbuilt : goal.returns-clause-unbuilt
-returns-clause-unbuilt g c =
-    unbuilt (texts c.args.words.now) (g.S.Shelf.state c.args.shelf.now) (g.S.Shelf.state c.end_of.new.shelf) (g.O.Sink.state c.args.out.now) (g.O.Sink.state c.end_of.new.out) c.end_of.result c.end_of.ensures.ended
-
-pub returns-clause-finds_case : goal.returns-clause-finds_case
-returns-clause-finds_case g c =
-    finds_case (texts c.args.words.now) (g.S.Shelf.state c.args.shelf.now) (g.S.Shelf.state c.end_of.new.shelf) (g.O.Sink.state c.args.out.now) (g.O.Sink.state c.end_of.new.out) c.end_of.result c.end_of.ensures.ended
-
-pub returns-clause-finds_left_out : goal.returns-clause-finds_left_out
-returns-clause-finds_left_out g c =
-    finds_left_out (texts c.args.words.now) (g.S.Shelf.state c.args.shelf.now) (g.S.Shelf.state c.end_of.new.shelf) (g.O.Sink.state c.args.out.now) (g.O.Sink.state c.end_of.new.out) c.end_of.result c.end_of.ensures.ended
-
-pub returns-clause-finds_stop : goal.returns-clause-finds_stop
-returns-clause-finds_stop g c =
-    finds_stop (texts c.args.words.now) (g.S.Shelf.state c.args.shelf.now) (g.S.Shelf.state c.end_of.new.shelf) (g.O.Sink.state c.args.out.now) (g.O.Sink.state c.end_of.new.out) c.end_of.result c.end_of.ensures.ended
-
-pub returns-clause-completes : goal.returns-clause-completes
-returns-clause-completes g c =
-    completes (texts c.args.words.now) (g.S.Shelf.state c.args.shelf.now) (g.S.Shelf.state c.end_of.new.shelf) (g.O.Sink.state c.args.out.now) (g.O.Sink.state c.end_of.new.out) c.end_of.result c.end_of.ensures.ended
-
-pub returns-clause-other_files : goal.returns-clause-other_files
-returns-clause-other_files g c =
-    other_files (texts c.args.words.now) (g.S.Shelf.state c.args.shelf.now) (g.S.Shelf.state c.end_of.new.shelf) (g.O.Sink.state c.args.out.now) (g.O.Sink.state c.end_of.new.out) c.end_of.result c.end_of.ensures.ended
+pub returns-in-Err-clause-ends : goal.returns-in-Err-clause-ends
+returns-in-Err-clause-ends g c =
+    let call : Call = record {
+      words = texts c.args.words.now;
+      before = record {
+        shelf = g.S.Shelf.state c.args.shelf.now;
+        link = g.L.Link.state c.args.link.now;
+        clock = g.K.Clock.state c.args.clock.now;
+        sink = g.O.Sink.state c.args.out.now;
+      };
+      after = record {
+        shelf = g.S.Shelf.state c.run_command.new.shelf;
+        link = g.L.Link.state c.args.link.now;
+        clock = g.K.Clock.state c.args.clock.now;
+        sink = g.O.Sink.state c.put_fault.new.out;
+      };
+      status = c.put_fault.result;
+    } in
+    ends_failed call c.in-Err.fault c.in-Err.ensures.fails c.put_fault.ensures.status c.put_fault.ensures.line c.put_fault.ensures.goes_on

@@ -1,10 +1,16 @@
--- Six words were read, the first the verb and the others names.
-use Rattle.std.proofs.Common.{arith, rules}
-use Rattle.colo_top.proofs.WordTexts.{read_spells}
+-- The words after the first are names, or not.
+use Rattle.std.proofs.Common.{List, ℕ, Option, sym, ◌∙◌, ap}
+use Rattle.colo_top.specs.Words.{Command, read_verb, texts}
+use Rattle.colo_top.proofs.WordLemmas.{words_of_names, words_of_others}
 use Rattle.colo_top.proofs.words.read_words.Goals as goal
 
-pub returns-clause-spelled : goal.returns-clause-spelled
-returns-clause-spelled c =
-    rw (c.as_str-2.ensures.value, c.as_str-3.ensures.value, c.as_str-4.ensures.value, c.as_str-5.ensures.value, c.as_str-6.ensures.value)
-    (read_spells c.args.words.now c.verb-item.result c.image-item.result c.disk-item.result c.client-item.result c.schedule-item.result c.out-item.result (omega arith)
-    c.verb-item.is c.image-item.is c.disk-item.is c.client-item.is c.schedule-item.is c.out-item.is (search rules) (search rules))
+pub returns-then-are_names : goal.returns-then-are_names
+returns-then-are_names c =
+    let Spelled : List ℕ → Option Command = λ verb. read_verb verb (texts c.in_ok-verb.names.now) in
+    c.read_verb.ensures ∙ (ap Spelled c.as_str.ensures.value
+    ∙ sym (words_of_names c.args.words.now c.in_ok-verb.verb.now c.in_ok-verb.names.now c.in_ok-verb.ensures.cases.0 (sym c.are_names.ensures ∙ c.if-are_names.true)))
+
+pub returns-else-are_names : goal.returns-else-are_names
+returns-else-are_names c =
+    sym (words_of_others c.args.words.now c.in_ok-verb.verb.now c.in_ok-verb.names.now c.in_ok-verb.ensures.cases.0
+    (sym c.are_names.ensures ∙ c.if-are_names.false))

@@ -1,4 +1,4 @@
-use Rattle.colo_top.proofs.Boards.{stored_elsewhere}
+use Rattle.colo_top.proofs.BoardLemmas.{stored_elsewhere}
 use Rattle.colo_top.proofs.board.BoardBus.store.Goals as goal
 
 pub returns-clause-after : goal.returns-clause-after
