@@ -1,3 +1,4 @@
 pub mod CaseLemmas
+pub mod LastSegmentLemmas
 pub mod PlaceLemmas
 pub mod TableLemmas

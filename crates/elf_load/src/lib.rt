@@ -5,11 +5,13 @@ mod boot;
 mod fault;
 mod file;
 mod header;
+mod laws;
 mod placing;
 mod segments;
 
 pub use boot::load;
 pub use fault::ElfFault;
+pub use laws::last_segment_wins;
 
 #[cfg(test)]
 mod tests;

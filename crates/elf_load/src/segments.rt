@@ -50,7 +50,8 @@ impl ProgramHeader {
     /// Its bytes in the file.
     pub(crate) fn content<'a>(&self, bytes: &'a [u8]) -> &'a [u8]
         requires { overruns (length bytes.now) self.now ≡ false }
-        ensures bytes { result.now ≡ slice_range bytes.now self.now.p_offset (self.now.p_offset + self.now.p_filesz) }
+        ensures bytes { result.now ≡ (let from = self.now.p_offset in
+            slice_range bytes.now from (from + self.now.p_filesz)) }
         ensures len { length result.now ≡ self.now.p_filesz }
     {
         if self.p_filesz == 0 {
@@ -84,8 +85,10 @@ pub(crate) fn check_segments(bytes: &[u8], size: usize) -> Result<(), ElfFault>
     requires small { size ≤ 67108864 }
     requires long { 52 ≤ length bytes.now }
     requires table { HasTable bytes.now }
-    ensures err { IfErr result (λ fault. first_of (segment_cases size bytes.now) ≡ Some fault.number) }
-    ensures no_overrun { OnOk result (list_any (overruns (length bytes.now)) (segments bytes.now) ≡ false) }
+    ensures err { IfErr result (λ fault.
+        first_of (segment_cases size bytes.now) ≡ Some fault.number) }
+    ensures no_overrun { OnOk result (
+        list_any (overruns (length bytes.now)) (segments bytes.now) ≡ false) }
     ensures inside { OnOk result (list_any (lies_outside size) (segments bytes.now) ≡ false) }
     ensures some { OnOk result (list_all is_empty (segments bytes.now) ≡ false) }
 {

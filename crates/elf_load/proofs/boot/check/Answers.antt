@@ -15,7 +15,8 @@ returns-in_err-check_segments-clause-first_case c =
     let call = c.from_residual-in_err-check_segments in
     let p = err_from_is_err_and call.result call.ensures.1 in
     rw (p.1, p.2)
-    (case_of_segments c.args.size c.args.bytes.now _ c.in_ok-check_file.ensures.cases c.in_err-check_segments.ensures.err)
+    (case_of_segments c.args.size c.args.bytes.now _ c.in_ok-check_file.ensures.cases
+    c.in_err-check_segments.ensures.err)
 
 pub returns-then-not-can_start-clause-first_case :
     goal.returns-then-not-can_start-clause-first_case
