@@ -1,0 +1,3 @@
+pub mod NotifyLaw
+pub mod PortLemmas
+pub mod SendLemmas

@@ -1,0 +1,183 @@
+use Rattle.std.proofs.Common.{◌∙◌, ◌++◌, ℕ, slice_index_or, refl, ap, sym, append-nil}
+use Rattle.std.proofs.lemmas.Result.{err_from_is_err_and}
+use Rattle.virtio_mmio.specs.declared.kind.Served.TheVariants.{Idle, Broken}
+use Rattle.virtio_mmio.specs.declared.fields.DeviceFields.{DeviceFields}
+use Rattle.virt_queue.specs.Queue.{no_queue}
+use Rattle.virtio_net.specs.Port.{Card, port_of}
+use Rattle.virtio_net.specs.Send.{Sending, send_chain, send_chains}
+use Rattle.virtio_net.proofs.SendLemmas.{sends_begin, sends_go_on, sends_end, sends_all, send_live, send_idle}
+use Rattle.virtio_net.proofs.net.Net.sent.Goals as goal
+
+pub returns-then-not-works_on-clause-answer : goal.returns-then-not-works_on-clause-answer
+returns-then-not-works_on-clause-answer c =
+    let start = port_of c.args.self.now c.args.ram.now in
+    let idle = send_idle start (sym c.works_on.ensures ∙ c.if-not-works_on.true) in
+    rw idle refl
+
+pub returns-then-not-works_on-clause-port : goal.returns-then-not-works_on-clause-port
+returns-then-not-works_on-clause-port c =
+    let start = port_of c.args.self.now c.args.ram.now in
+    let idle = send_idle start (sym c.works_on.ensures ∙ c.if-not-works_on.true) in
+    rw idle refl
+
+pub returns-then-not-works_on-clause-frames : goal.returns-then-not-works_on-clause-frames
+returns-then-not-works_on-clause-frames c =
+    let start = port_of c.args.self.now c.args.ram.now in
+    let idle = send_idle start (sym c.works_on.ensures ∙ c.if-not-works_on.true) in
+    sym (ap (λ (s : Sending). c.args.out.now ++ s.frames) idle ∙ append-nil c.args.out.now)
+
+pub loop-init : goal.loop-init
+loop-init c =
+    let start = port_of c.args.self.now c.args.ram.now in
+    let works = sym c.works_on.ensures ∙ c.if-not-works_on.false in (
+      ap (λ (f : DeviceFields). (slice_index_or f.queues 1 no_queue).num) c.fields.ensures.value
+          ∙ ap (λ (x : Card). x.device.second.num) c.self.view_is,
+      sends_begin start _ c.args.out.now works,
+    )
+
+pub send_chain-requires : goal.send_chain-requires
+send_chain-requires c = c.loop.invariant.1.works
+
+pub returns-in_err-send_chain-clause-begins : goal.returns-in_err-send_chain-clause-begins
+returns-in_err-send_chain-clause-begins c =
+    let u = c.loop.invariant.1 in
+    let p = err_from_is_err_and c.from_residual.result c.from_residual.ensures.1 in
+    rw p.1 (u.frames, c.in_err-send_chain.ensures.err ∙ u.out_is)
+
+pub returns-in-Idle-clause-answer : goal.returns-in-Idle-clause-answer
+returns-in-Idle-clause-answer c =
+    let start = port_of c.args.self.now c.args.ram.now in
+    let now = port_of c.loop.self c.loop.ram in
+    let u = c.loop.invariant.1 in
+    let works = sym c.works_on.ensures ∙ c.if-not-works_on.false in
+    let whole = send_live start works ∙ ap (λ (n : ℕ). send_chains n Idle start) (sym c.loop.invariant.0) in
+    let lt = c.loop-test.true in
+    let answer = c.in_ok-send_chain.ensures.answer in
+    let sent = sends_end start now _ c.loop.counter c.loop.so_far c.args.out.now c.loop.out Idle c.loop.so_far
+    (port_of c.send_chain.new.self c.send_chain.new.ram) c.send_chain.new.out u lt (sym answer
+    ∙ c.in-Idle.is) (λ rest. refl)
+    c.in_ok-send_chain.ensures.port c.in_ok-send_chain.ensures.frames in
+    sent.answer_is ∙ sym (ap (λ (s : Sending). s.answer) whole)
+
+pub returns-in-Idle-clause-port : goal.returns-in-Idle-clause-port
+returns-in-Idle-clause-port c =
+    let start = port_of c.args.self.now c.args.ram.now in
+    let now = port_of c.loop.self c.loop.ram in
+    let u = c.loop.invariant.1 in
+    let works = sym c.works_on.ensures ∙ c.if-not-works_on.false in
+    let whole = send_live start works ∙ ap (λ (n : ℕ). send_chains n Idle start) (sym c.loop.invariant.0) in
+    let lt = c.loop-test.true in
+    let answer = c.in_ok-send_chain.ensures.answer in
+    let sent = sends_end start now _ c.loop.counter c.loop.so_far c.args.out.now c.loop.out Idle c.loop.so_far
+    (port_of c.send_chain.new.self c.send_chain.new.ram) c.send_chain.new.out u lt (sym answer
+    ∙ c.in-Idle.is) (λ rest. refl)
+    c.in_ok-send_chain.ensures.port c.in_ok-send_chain.ensures.frames in
+    sent.port_is ∙ sym (ap (λ (s : Sending). s.port) whole)
+
+pub returns-in-Idle-clause-frames : goal.returns-in-Idle-clause-frames
+returns-in-Idle-clause-frames c =
+    let start = port_of c.args.self.now c.args.ram.now in
+    let now = port_of c.loop.self c.loop.ram in
+    let u = c.loop.invariant.1 in
+    let works = sym c.works_on.ensures ∙ c.if-not-works_on.false in
+    let whole = send_live start works ∙ ap (λ (n : ℕ). send_chains n Idle start) (sym c.loop.invariant.0) in
+    let lt = c.loop-test.true in
+    let answer = c.in_ok-send_chain.ensures.answer in
+    let sent = sends_end start now _ c.loop.counter c.loop.so_far c.args.out.now c.loop.out Idle c.loop.so_far
+    (port_of c.send_chain.new.self c.send_chain.new.ram) c.send_chain.new.out u lt (sym answer
+    ∙ c.in-Idle.is) (λ rest. refl)
+    c.in_ok-send_chain.ensures.port c.in_ok-send_chain.ensures.frames in
+    sent.frames_are ∙ sym (ap (λ (s : Sending). c.args.out.now ++ s.frames) whole)
+
+pub returns-in-Broken-clause-answer : goal.returns-in-Broken-clause-answer
+returns-in-Broken-clause-answer c =
+    let start = port_of c.args.self.now c.args.ram.now in
+    let now = port_of c.loop.self c.loop.ram in
+    let u = c.loop.invariant.1 in
+    let works = sym c.works_on.ensures ∙ c.if-not-works_on.false in
+    let whole = send_live start works ∙ ap (λ (n : ℕ). send_chains n Idle start) (sym c.loop.invariant.0) in
+    let lt = c.loop-test.true in
+    let last = sym c.in_ok-send_chain.ensures.answer ∙ c.in-Broken.is in
+    let sent = sends_end start now _ c.loop.counter c.loop.so_far c.args.out.now c.loop.out (Broken c.in-Broken.fault)
+    (Broken c.in-Broken.fault)
+    (port_of c.send_chain.new.self c.send_chain.new.ram) c.send_chain.new.out u lt last
+    (λ rest i. record (send_chain now) { answer = last i })
+    c.in_ok-send_chain.ensures.port c.in_ok-send_chain.ensures.frames in
+    sent.answer_is ∙ sym (ap (λ (s : Sending). s.answer) whole)
+
+pub returns-in-Broken-clause-port : goal.returns-in-Broken-clause-port
+returns-in-Broken-clause-port c =
+    let start = port_of c.args.self.now c.args.ram.now in
+    let now = port_of c.loop.self c.loop.ram in
+    let u = c.loop.invariant.1 in
+    let works = sym c.works_on.ensures ∙ c.if-not-works_on.false in
+    let whole = send_live start works ∙ ap (λ (n : ℕ). send_chains n Idle start) (sym c.loop.invariant.0) in
+    let lt = c.loop-test.true in
+    let last = sym c.in_ok-send_chain.ensures.answer ∙ c.in-Broken.is in
+    let sent = sends_end start now _ c.loop.counter c.loop.so_far c.args.out.now c.loop.out (Broken c.in-Broken.fault)
+    (Broken c.in-Broken.fault)
+    (port_of c.send_chain.new.self c.send_chain.new.ram) c.send_chain.new.out u lt last
+    (λ rest i. record (send_chain now) { answer = last i })
+    c.in_ok-send_chain.ensures.port c.in_ok-send_chain.ensures.frames in
+    sent.port_is ∙ sym (ap (λ (s : Sending). s.port) whole)
+
+pub returns-in-Broken-clause-frames : goal.returns-in-Broken-clause-frames
+returns-in-Broken-clause-frames c =
+    let start = port_of c.args.self.now c.args.ram.now in
+    let now = port_of c.loop.self c.loop.ram in
+    let u = c.loop.invariant.1 in
+    let works = sym c.works_on.ensures ∙ c.if-not-works_on.false in
+    let whole = send_live start works ∙ ap (λ (n : ℕ). send_chains n Idle start) (sym c.loop.invariant.0) in
+    let lt = c.loop-test.true in
+    let last = sym c.in_ok-send_chain.ensures.answer ∙ c.in-Broken.is in
+    let sent = sends_end start now _ c.loop.counter c.loop.so_far c.args.out.now c.loop.out (Broken c.in-Broken.fault)
+    (Broken c.in-Broken.fault)
+    (port_of c.send_chain.new.self c.send_chain.new.ram) c.send_chain.new.out u lt last
+    (λ rest i. record (send_chain now) { answer = last i })
+    c.in_ok-send_chain.ensures.port c.in_ok-send_chain.ensures.frames in
+    sent.frames_are ∙ sym (ap (λ (s : Sending). c.args.out.now ++ s.frames) whole)
+
+pub loop-preserved : goal.loop-preserved
+loop-preserved c =
+    let start = port_of c.args.self.now c.args.ram.now in
+    let now = port_of c.loop.self c.loop.ram in
+    let lt = c.loop-test.true in (
+      c.loop.invariant.0,
+      sends_go_on start now _ c.loop.counter c.loop.so_far c.args.out.now c.loop.out
+          (port_of c.send_chain.new.self c.send_chain.new.ram) c.send_chain.new.out c.loop.invariant.1 lt
+          (sym c.in_ok-send_chain.ensures.answer
+          ∙ c.in-Done.is) c.in_ok-send_chain.ensures.port c.in_ok-send_chain.ensures.frames,
+    )
+
+pub returns-clause-answer : goal.returns-clause-answer
+returns-clause-answer c =
+    let start = port_of c.args.self.now c.args.ram.now in
+    let now = port_of c.loop.self c.loop.ram in
+    let u = c.loop.invariant.1 in
+    let works = sym c.works_on.ensures ∙ c.if-not-works_on.false in
+    let whole = send_live start works ∙ ap (λ (n : ℕ). send_chains n Idle start) (sym c.loop.invariant.0) in
+    let le = c.loop-test.false in
+    let sent = sends_all start now _ c.loop.counter c.loop.so_far c.args.out.now c.loop.out u le in
+    sent.answer_is ∙ sym (ap (λ (s : Sending). s.answer) whole)
+
+pub returns-clause-port : goal.returns-clause-port
+returns-clause-port c =
+    let start = port_of c.args.self.now c.args.ram.now in
+    let now = port_of c.loop.self c.loop.ram in
+    let u = c.loop.invariant.1 in
+    let works = sym c.works_on.ensures ∙ c.if-not-works_on.false in
+    let whole = send_live start works ∙ ap (λ (n : ℕ). send_chains n Idle start) (sym c.loop.invariant.0) in
+    let le = c.loop-test.false in
+    let sent = sends_all start now _ c.loop.counter c.loop.so_far c.args.out.now c.loop.out u le in
+    sent.port_is ∙ sym (ap (λ (s : Sending). s.port) whole)
+
+pub returns-clause-frames : goal.returns-clause-frames
+returns-clause-frames c =
+    let start = port_of c.args.self.now c.args.ram.now in
+    let now = port_of c.loop.self c.loop.ram in
+    let u = c.loop.invariant.1 in
+    let works = sym c.works_on.ensures ∙ c.if-not-works_on.false in
+    let whole = send_live start works ∙ ap (λ (n : ℕ). send_chains n Idle start) (sym c.loop.invariant.0) in
+    let le = c.loop-test.false in
+    let sent = sends_all start now _ c.loop.counter c.loop.so_far c.args.out.now c.loop.out u le in
+    sent.frames_are ∙ sym (ap (λ (s : Sending). c.args.out.now ++ s.frames) whole)
