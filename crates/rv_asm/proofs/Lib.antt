@@ -1,15 +1,9 @@
-pub mod DigitLemmas
-pub mod FormLemmas
+pub mod ByteLemmas
 pub mod FoundLemmas
-pub mod JoinLemmas
+pub mod LabelLemmas
 pub mod LawLemmas
-pub mod LineLemmas
 pub mod LoadLemmas
-pub mod NameLemmas
 pub mod OnlyLemmas
-pub mod OperandLemmas
 pub mod ProgramLemmas
 pub mod RangeLemmas
-pub mod SaidLemmas
 pub mod TextLemmas
-pub mod WordLemmas

@@ -1,71 +1,55 @@
--- The operands that are read are within what a word has room for.
-use Rattle.std.proofs.Common.{◌≡◌, ℕ, zero, suc, ◌+◌, ◌%◌, ◌^◌, ◌<◌, ◌≤◌, ◌-◌, Bool, true, false, cond, ◌&&◌, ℤ, pos, List, [], ◌∷◌, Option, Some, None, Result, Ok, Err, length, get_or, drop, ltb, leb, eqb, refl, subst, arith}
+-- The operands that a text writes are within what a word has room for.
+use Rattle.std.proofs.Common.{◌≡◌, ℕ, zero, suc, ◌+◌, ◌-◌, ◌*◌, ◌%◌, ◌^◌, ◌<◌, ◌≤◌, Bool, true, false, cond, ℤ, pos, List, [], ◌∷◌, Option, Some, None, Result, Ok, Err, drop, get_or, leb, eqb, ◌&&◌, refl, ap, subst, inl, inr, arith}
 use Rattle.std.specs.Prelude.{option_map, neg_ℤ, ◌≤ℤ◌, ◌<ℤ◌, unsigned_abs}
-use Rattle.std.proofs.lemmas.Bool.{ltb-true, leb-true, eqb-true}
+use Rattle.std.specs.Result.{result_ok}
+use Rattle.std.specs.Str.Parse.{digits_value}
+use Rattle.std.proofs.lemmas.Bool.{leb-true, cases_lt, lt-leb}
 use Rattle.std.proofs.lemmas.Int.{ints}
+use Rattle.shared_definitions.specs.Ascii.{minus, digit_zero, letter_a, letter_x}
+use Rattle.ascii_text.specs.declared.numbers.NumberFault.{NumberFault}
+use Rattle.ascii_text.specs.declared.numbers.NumberFault.TheVariants.{NoNumber, TooLarge}
+use Rattle.ascii_text.specs.Numbers.{is_numeral, within, decimal_within, hexadecimal_within}
+use Rattle.ascii_text.proofs.DecimalLemmas.{decimal_small}
 use Rattle.rv_isa.specs.Ranges.{IsSigned, IsOffset}
-use Rattle.rv_text.specs.Cuts.{cut}
-use Rattle.rv_text.specs.declared.numbers.Number.{Number}
-use Rattle.rv_text.specs.Reading.{number_of, register_of, decimal_of, below}
+use Rattle.rv_forms.specs.declared.kinds.Operands.{Operands}
+use Rattle.rv_forms.specs.declared.kinds.Kind.{Kind}
+use Rattle.rv_forms.specs.declared.kinds.Kind.TheVariants as kinds
+use Rattle.rv_forms.specs.Ranges.{IsInRange, AreInRange}
 use Rattle.rv_asm.specs.declared.fault.Why.{Why}
-use Rattle.rv_asm.specs.declared.fault.Why.TheVariants.{Word, Range}
-use Rattle.rv_asm.specs.declared.kinds.Fields.{Fields}
-use Rattle.rv_asm.specs.declared.kinds.Kind.{Kind}
-use Rattle.rv_asm.specs.declared.kinds.Kind.TheVariants as kinds
-use Rattle.rv_asm.specs.Faults.{◌>>=◌}
-use Rattle.rv_asm.specs.Operands.{register_or, register, is_within, value, signed, even, unsigned, named_place, distance, number_else, label_target, target, signed_number, unsigned_number, bracketed, closed, base_register, address_parts, word_number, word_value, operand, behind_comma, next_operand, finished, operands}
+use Rattle.rv_asm.specs.declared.fault.Why.TheVariants.{Range}
+use Rattle.rv_asm.specs.declared.reading.Number.{Number}
+use Rattle.rv_asm.specs.Grammar.{IsSignedText, IsUnsignedText, IsTargetText, IsWordText, IsValueText, IsOperandText, AreOperandTexts, IsStatementText}
+use Rattle.rv_asm.specs.Operands.{value, distance, address}
+use Rattle.rv_asm.specs.Reading.{with_sign, number_within, register_of}
 
--- the value of a step that did not fail
-pub bind_ok : {A B : Type 0} (r : Result A Why) (f : A → Result B Why) (y : B) → (r >>= f) ≡ Ok y → (x : A) × (r ≡ Ok x) × (f x ≡ Ok y)
-bind_ok (Ok x) f y e = (x, refl, e)
-bind_ok (Err why) f y e = absurd cc
-
-abbrev pub done : {A : Type 0} → A → Result A Why
+abbrev done : {A : Type 0} → A → Result A Why
 done x = Ok x
 
-pub ok_is : {A : Type 0} (x y : A) → done x ≡ done y → x ≡ y
-ok_is x y e = cc
-
-pub guard_ok : {A : Type 0} (b : Bool) (why : Why) (x y : A) → cond b (Ok x) (Err why) ≡ Ok y → (b ≡ true) × (x ≡ y)
+guard_ok : {A : Type 0} (b : Bool) (why : Why) (x y : A) → cond b (Ok x) (Err why) ≡ done y → (b ≡ true) × (x ≡ y)
 guard_ok true why x y e = (refl, cc)
 guard_ok false why x y e = absurd cc
 
-pub both : (a b : Bool) → (a && b) ≡ true → (a ≡ true) × (b ≡ true)
-both true b e = (refl, e)
-both false b e = absurd cc
+abbrev large_result : Result ℕ NumberFault
+large_result = Err TooLarge
 
--- what an operand of this kind leads to
-abbrev pub Step : Kind → Fields → (Fields → Type 0) → Type 0
-Step kinds.Rd f P = (r : ℕ) → r < 32 → P (record f { rd = r })
-Step kinds.Rs1 f P = (r : ℕ) → r < 32 → P (record f { rs1 = r })
-Step kinds.Rs2 f P = (r : ℕ) → r < 32 → P (record f { rs2 = r })
-Step kinds.Immediate f P = (z : ℤ) → IsSigned 12 z → P (record f { imm = z })
-Step kinds.Shift f P = (n : ℕ) → n < 32 → P (record f { rs2 = n })
-Step kinds.Small f P = (n : ℕ) → n < 32 → P (record f { rs1 = n })
-Step kinds.Csr f P = (n : ℕ) → n < 2 ^ 12 → P (record f { wide = n })
-Step kinds.Upper f P = (n : ℕ) → n < 2 ^ 20 → P (record f { wide = n })
-Step kinds.Branch f P = (z : ℤ) → IsOffset 13 z → P (record f { imm = z })
-Step kinds.Jump f P = (z : ℤ) → IsOffset 21 z → P (record f { imm = z })
-Step kinds.Address f P = (z : ℤ) → IsSigned 12 z → (r : ℕ) → r < 32 → P (record f { imm = z; rs1 = r })
-Step kinds.Base f P = (r : ℕ) → r < 32 → P (record f { rs1 = r })
-Step kinds.Word f P = (n : ℕ) → P (record f { wide = n })
-Step kinds.Value f P = (n : ℕ) → P (record f { wide = n })
+abbrev no_result : Result ℕ NumberFault
+no_result = Err NoNumber
 
-abbrev pub After : List Kind → Fields → (Fields → Type 0) → Type 0
-After [] f P = P f
-After (kind ∷ more) f P = Step kind f (λ g. After more g P)
+abbrev magnitude_of : Result Number NumberFault → Result ℕ NumberFault
+magnitude_of (Ok n) = Ok n.magnitude
+magnitude_of (Err fault) = Err fault
+
+abbrev sign_of : Result Number NumberFault → Bool
+sign_of (Ok n) = n.negative
+sign_of (Err fault) = false
 
 -- ---- registers
 
-some_is : (b : Bool) (m n : ℕ) → cond b (Some m) None ≡ Some n → (b ≡ true) × (m ≡ n)
-some_is true m n e = (refl, cc)
-some_is false m n e = absurd cc
+small_by : (most : ℕ) (r : Result ℕ NumberFault) (n : ℕ) → ((m : ℕ) → r ≡ Ok m → m ≤ most) → result_ok r ≡ Some n → n ≤ most
+small_by most (Ok m) n small e = let same : m ≡ n = cc in omega (arith, small m refl)
+small_by most (Err fault) n small e = absurd cc
 
-below_range : (bound : ℕ) (o : Option ℕ) (n : ℕ) → below bound o ≡ Some n → n < bound
-below_range bound None n e = absurd cc
-below_range bound (Some m) n e = let h = some_is (ltb m bound) m n e in omega (arith, ltb-true m bound h.0, h.1)
-
-argument_range : (o : Option ℕ) (n : ℕ) → ((m : ℕ) → o ≡ Some m → m < 8) → option_map (λ k. 10 + k) o ≡ Some n → n < 32
+argument_range : (o : Option ℕ) (n : ℕ) → ((m : ℕ) → o ≡ Some m → m ≤ 7) → option_map (λ k. 10 + k) o ≡ Some n → n < 32
 argument_range None n range e = absurd cc
 argument_range (Some m) n range e = let h : 10 + m ≡ n = cc in omega (arith, range m refl)
 
@@ -74,138 +58,130 @@ choose_range true c x y n hx hy e = hx n e
 choose_range false true x y n hx hy e = hy n e
 choose_range false false x y n hx hy e = absurd cc
 
-register_of_range : (text : List ℕ) (n : ℕ) → register_of text ≡ Some n → n < 32
-register_of_range text n e =
-    choose_range (eqb (get_or text 0 0) 120) (eqb (get_or text 0 0) 97) (below 32 (decimal_of (drop 1 text))) (option_map (λ k. 10 + k) (below 8 (decimal_of (drop 1 text)))) n
-    (λ m h. below_range 32 (decimal_of (drop 1 text)) m h)
-    (λ m h. argument_range (below 8 (decimal_of (drop 1 text))) m (λ k g. below_range 8 (decimal_of (drop 1 text)) k g) h)
+pub register_range : (text : List ℕ) (n : ℕ) → register_of text ≡ Some n → n < 32
+unfolding register_of
+register_range text n e =
+    let digits = drop 1 text in
+    choose_range (eqb (get_or text 0 0) letter_x) (eqb (get_or text 0 0) letter_a) (result_ok (decimal_within 31 digits)) (option_map (λ k. 10 + k) (result_ok (decimal_within 7 digits))) n
+    (λ m h. omega (arith, small_by 31 (decimal_within 31 digits) m (λ k g. decimal_small 31 digits k g) h))
+    (λ m h. argument_range (result_ok (decimal_within 7 digits)) m (λ k g. small_by 7 (decimal_within 7 digits) k (λ j f. decimal_small 7 digits j f) g) h)
     e
-
-pub register_or_ok : (o : Option ℕ) (text : List ℕ) (r : ℕ) → register_or o text ≡ Ok r → o ≡ Some r
-register_or_ok None text r e = absurd cc
-register_or_ok (Some x) text r e = cc
-
-register_range : (text : List ℕ) (r : ℕ) → register text ≡ Ok r → r < 32
-unfolding register
-register_range text r e = register_of_range text r (register_or_ok (register_of text) text r e)
-
-closed_is : (rest : Option (List ℕ)) (r s : ℕ) → closed rest r ≡ Ok s → r ≡ s
-closed_is None r s e = absurd cc
-closed_is (Some []) r s e = cc
-closed_is (Some (c ∷ cs)) r s e = absurd cc
-
-bracketed_range : (text : Option (List ℕ)) (r : ℕ) → bracketed text ≡ Ok r → r < 32
-bracketed_range None r e = absurd cc
-bracketed_range (Some text) r e =
-    let b = bind_ok (register (cut 41 text).before) (λ s. closed (cut 41 text).after s) r e in
-    omega (arith, register_range (cut 41 text).before b.0 b.1, closed_is (cut 41 text).after b.0 r b.2)
-
-chosen : (b : Bool) (x : Result ℕ Why) (r : ℕ) → ((s : ℕ) → x ≡ Ok s → s < 32) → cond b x (Err Word) ≡ Ok r → r < 32
-chosen true x r range e = range r e
-chosen false x r range e = absurd cc
-
-base_range : (text : List ℕ) (r : ℕ) → base_register text ≡ Ok r → r < 32
-unfolding base_register
-base_range text r e = chosen (eqb (length (cut 40 text).before) 0) (bracketed (cut 40 text).after) r (λ s h. bracketed_range (cut 40 text).after s h) e
 
 -- ---- numbers
 
-else_ok : {X : Type 0} (o : Option Number) (f : Number → Result X Why) (other : Result X Why) (x : X) (In : X → Type 0) → ((n : Number) → f n ≡ Ok x → In x) → (other ≡ Ok x → In x) → number_else o f other ≡ Ok x → In x
-else_ok None f other x In first second e = second e
-else_ok (Some n) f other x In first second e = first n e
+bound_by : (most v n : ℕ) → within most v ≡ Ok n → n ≤ most
+bound_by most v n e =
+    elim (cases_lt most v) [
+      | inl large ↦ let h = rw (lt-leb v most large) at e in absurd (no_number h)
+      | inr small ↦ omega (arith, small, given (leb v most) v n e)
+    ]
+  where
+    no_number : {n : ℕ} → large_result ≡ Ok n → ⊥
+    no_number h = cc
 
-abbrev failed : {A : Type 0} → Why → Result A Why
-failed why = Err why
+    given : (b : Bool) (v n : ℕ) → cond b (Ok v) large_result ≡ Ok n → v ≡ n
+    given true v n e = cc
+    given false v n e = absurd cc
 
-word_fails : {X : Type 0} (x : X) (In : X → Type 0) → failed Word ≡ done x → In x
-word_fails x In e = absurd cc
+hexadecimal_small : (most : ℕ) (text : List ℕ) (n : ℕ) → hexadecimal_within most text ≡ Ok n → n ≤ most
+hexadecimal_small most text n e = by (is_numeral 16 text) e
+  where
+    by : (b : Bool) → cond b (within most (digits_value 16 text)) no_result ≡ Ok n → n ≤ most
+    by true h = bound_by most (digits_value 16 text) n h
+    by false h = absurd cc
 
-value_range : (negative : Bool) (m low high half : ℕ) → low ≤ half → high < half → leb m (cond negative low high) ≡ true → (neg_ℤ (pos half) ≤ℤ cond negative (neg_ℤ (pos m)) (pos m)) × (cond negative (neg_ℤ (pos m)) (pos m) <ℤ pos half)
-value_range true m low high half l h t = let le = leb-true m low t in (omega (arith, ints), omega (arith, ints))
-value_range false m low high half l h t = let le = leb-true m high t in (omega (arith, ints), omega (arith, ints))
+sign_ok : (negative : Bool) (r : Result ℕ NumberFault) (n : Number) → with_sign negative r ≡ Ok n → (r ≡ Ok n.magnitude) × (negative ≡ n.negative)
+sign_ok negative (Ok m) n e = (ap (λ (x : Result Number NumberFault). magnitude_of x) e, ap (λ (x : Result Number NumberFault). sign_of x) e)
+sign_ok negative (Err fault) n e = absurd cc
+
+abbrev IsBounded : ℕ → ℕ → Number → Type 0
+IsBounded low high n = n.magnitude ≤ cond n.negative low high
+
+pub bounded : (low high : ℕ) (text : List ℕ) (n : Number) → number_within low high text ≡ Ok n → IsBounded low high n
+unfolding number_within
+bounded low high text n e = by (eqb (get_or text 0 0) minus) (eqb (get_or text 0 0) digit_zero && eqb (get_or text 1 0) letter_x) e
+  where
+    by : (b c : Bool) → cond b (with_sign true (decimal_within low (drop 1 text))) (cond c (with_sign false (hexadecimal_within high (drop 2 text))) (with_sign false (decimal_within high text))) ≡ Ok n → IsBounded low high n
+    by true c h = let s = sign_ok true (decimal_within low (drop 1 text)) n h in rw (← s.1) (decimal_small low (drop 1 text) n.magnitude s.0)
+    by false true h = let s = sign_ok false (hexadecimal_within high (drop 2 text)) n h in rw (← s.1) (hexadecimal_small high (drop 2 text) n.magnitude s.0)
+    by false false h = let s = sign_ok false (decimal_within high text) n h in rw (← s.1) (decimal_small high text n.magnitude s.0)
+
+value_range : (negative : Bool) (m low high half : ℕ) → low ≤ half → high < half → m ≤ cond negative low high → (neg_ℤ (pos half) ≤ℤ cond negative (neg_ℤ (pos m)) (pos m)) × (cond negative (neg_ℤ (pos m)) (pos m) <ℤ pos half)
+value_range true m low high half l h t = (omega (arith, ints), omega (arith, ints))
+value_range false m low high half l h t = (omega (arith, ints), omega (arith, ints))
 
 abs_value : (negative : Bool) (m : ℕ) → unsigned_abs (cond negative (neg_ℤ (pos m)) (pos m)) ≡ m
 abs_value true zero = refl
 abs_value true (suc m) = refl
 abs_value false m = refl
 
-signed_range : (text : List ℕ) (z : ℤ) → signed_number 2048 2047 text ≡ Ok z → IsSigned 12 z
-unfolding signed_number
-signed_range text z e =
-    else_ok (number_of text) (signed 2048 2047) (Err Word) z (IsSigned 12)
-    (λ n h. let g = guard_ok (is_within 2048 2047 n) Range (value n) z h in subst (IsSigned 12) g.1 (value_range n.negative n.magnitude 2048 2047 (2 ^ 11) (omega arith) (omega arith) g.0))
-    (word_fails z (IsSigned 12)) e
+signed_range : (text : List ℕ) (z : ℤ) → IsSignedText text z → IsSigned 12 z
+signed_range text z h = subst (IsSigned 12) h.2 (value_range h.0.negative h.0.magnitude 2048 2047 (2 ^ 11) (omega arith) (omega arith) (bounded 2048 2047 text h.0 h.1))
 
-even_range : (low high k : ℕ) (n : Number) (z : ℤ) → low ≤ 2 ^ (k - 1) → high < 2 ^ (k - 1) → even low high n ≡ Ok z → IsOffset k z
-even_range low high k n z l h e =
-    let g = guard_ok (is_within low high n && eqb (n.magnitude % 2) 0) Range (value n) z e in
-    let b = both (is_within low high n) (eqb (n.magnitude % 2) 0) g.0 in
-    subst (IsOffset k) g.1 (value_range n.negative n.magnitude low high (2 ^ (k - 1)) l h b.0, rw (abs_value n.negative n.magnitude) (eqb-true (n.magnitude % 2) 0 b.1))
+offset_range : (low high k : ℕ) (n : Number) (z : ℤ) → low ≤ 2 ^ (k - 1) → high < 2 ^ (k - 1) → IsBounded low high n → n.magnitude % 2 ≡ 0 → value n ≡ z → IsOffset k z
+offset_range low high k n z l h inside even is =
+    subst (IsOffset k) is (value_range n.negative n.magnitude low high (2 ^ (k - 1)) l h inside, rw (abs_value n.negative n.magnitude) even)
 
-target_range : (places : List ℕ → Option ℕ) (here low high k : ℕ) (text : List ℕ) (z : ℤ) → low ≤ 2 ^ (k - 1) → high < 2 ^ (k - 1) → target places here low high text ≡ Ok z → IsOffset k z
-unfolding target label_target
-target_range places here low high k text z l h e =
-    else_ok (number_of text) (even low high) (label_target places here low high text) z (IsOffset k)
-    (λ n g. even_range low high k n z l h g)
-    (λ g. let b = bind_ok (named_place places text) (λ place. even low high (distance here place)) z g in even_range low high k (distance here b.0) z l h b.2) e
+abbrev distance_by : Bool → ℕ → ℕ → Number
+distance_by b x y = cond b (record { negative = false; magnitude = 4 * (y - x) }) (record { negative = true; magnitude = 4 * (x - y) })
 
-unsigned_bound : (negative : Bool) (m high : ℕ) → leb m (cond negative 0 high) ≡ true → m ≤ high
-unsigned_bound true m high t = omega (arith, leb-true m 0 t)
-unsigned_bound false m high t = leb-true m high t
+distance_even : (b : Bool) (x y : ℕ) → (distance_by b x y).magnitude % 2 ≡ 0
+distance_even true x y = omega arith
+distance_even false x y = omega arith
 
-unsigned_range : (high : ℕ) (text : List ℕ) (m : ℕ) → unsigned_number high text ≡ Ok m → m ≤ high
-unfolding unsigned_number
-unsigned_range high text m e =
-    else_ok (number_of text) (unsigned high) (Err Word) m (λ x. x ≤ high)
-    (λ n h. let g = guard_ok (is_within 0 high n) Range n.magnitude m h in subst (λ (x : ℕ). x ≤ high) g.1 (unsigned_bound n.negative n.magnitude high g.0))
-    (word_fails m (λ x. x ≤ high)) e
+target_range : (places : List ℕ → Option ℕ) (here low high k : ℕ) (text : List ℕ) (z : ℤ) → low ≤ 2 ^ (k - 1) → high < 2 ^ (k - 1) → IsTargetText places here low high text z → IsOffset k z
+target_range places here low high k text z l h t =
+    elim t [
+      | inl n ↦ offset_range low high k n.0 z l h (bounded low high text n.0 n.1) n.2 n.3
+      | inr p ↦
+          let n : Number = distance here p.0 in
+          let g = guard_ok (leb n.magnitude (cond n.negative low high)) Range (value n) z p.3 in
+          offset_range low high k n z l h (leb-true n.magnitude (cond n.negative low high) g.0) (distance_even (leb here p.0) here p.0) g.1
+    ]
 
-address_range : (text : List ℕ) (p : ℤ × ℕ) → address_parts text ≡ Ok p → IsSigned 12 p.0 × (p.1 < 32)
-unfolding address_parts
-address_range text p e =
-    let a = bind_ok (signed_number 2048 2047 (cut 40 text).before) (λ z. bracketed (cut 40 text).after >>= λ r. Ok (z, r)) p e in
-    let b = bind_ok (bracketed (cut 40 text).after) (λ r. Ok (a.0, r)) p a.2 in
-    subst (λ (q : ℤ × ℕ). IsSigned 12 q.0 × (q.1 < 32)) (ok_is (a.0, b.0) p b.2) (signed_range (cut 40 text).before a.0 a.1, bracketed_range (cut 40 text).after b.0 b.1)
+unsigned_range : (high : ℕ) (text : List ℕ) (m : ℕ) → IsUnsignedText high text m → m ≤ high
+unsigned_range high text m h = omega (arith, h.2, unsigned_bound h.0.negative h.0.magnitude high (bounded 0 high text h.0 h.1))
+  where
+    unsigned_bound : (negative : Bool) (n high : ℕ) → n ≤ cond negative 0 high → n ≤ high
+    unsigned_bound true n high t = omega arith
+    unsigned_bound false n high t = t
+
+word_range : (text : List ℕ) (m : ℕ) → IsWordText text m → m < 2 ^ 32
+word_range text m h = omega (arith, h.2, word_bound h.0.negative h.0.magnitude (bounded (2 ^ 31) (2 ^ 32 - 1) text h.0 h.1))
+  where
+    word_bound : (negative : Bool) (n : ℕ) → n ≤ cond negative (2 ^ 31) (2 ^ 32 - 1) → cond negative ((2 ^ 32 - n) % 2 ^ 32) n < 2 ^ 32
+    word_bound true n t = omega arith
+    word_bound false n t = omega arith
+
+value_text_range : (places : List ℕ → Option ℕ) (text : List ℕ) (m : ℕ) → IsValueText places text m → m < 2 ^ 32
+value_text_range places text m t =
+    elim t [
+      | inl h ↦ word_range text m h
+      | inr p ↦ let g = guard_ok (leb (address p.0) (2 ^ 32 - 1)) Range (address p.0) m p.3 in omega (arith, g.1, leb-true (address p.0) (2 ^ 32 - 1) g.0)
+    ]
 
 -- ---- operands
 
-pub step_by : {X : Type 0} (r : Result X Why) (make : X → Fields) (g : Fields) (P : Fields → Type 0) (In : X → Type 0) → ((x : X) → r ≡ Ok x → In x) → ((x : X) → In x → P (make x)) → (r >>= λ x. Ok (make x)) ≡ Ok g → P g
-step_by (Ok x) make g P In range step e = subst P (ok_is (make x) g e) (step x (range x refl))
-step_by (Err why) make g P In range step e = absurd cc
+operand_in_range : (places : List ℕ → Option ℕ) (here : ℕ) (kind : Kind) (text : List ℕ) (f : Operands) → IsOperandText places here kind text f → IsInRange kind f
+operand_in_range places here kinds.Rd text f h = register_range text f.rd h
+operand_in_range places here kinds.Rs1 text f h = register_range text f.rs1 h
+operand_in_range places here kinds.Rs2 text f h = register_range text f.rs2 h
+operand_in_range places here kinds.Immediate text f h = signed_range text f.imm h
+operand_in_range places here kinds.Shift text f h = omega (arith, unsigned_range 31 text f.rs2 h)
+operand_in_range places here kinds.Small text f h = omega (arith, unsigned_range 31 text f.rs1 h)
+operand_in_range places here kinds.Csr text f h = omega (arith, unsigned_range 4095 text f.wide h)
+operand_in_range places here kinds.Upper text f h = omega (arith, unsigned_range 0xFFFFF text f.wide h)
+operand_in_range places here kinds.Branch text f h = target_range places here 4096 4094 13 text f.imm (omega arith) (omega arith) h
+operand_in_range places here kinds.Jump text f h = target_range places here 1048576 1048574 21 text f.imm (omega arith) (omega arith) h
+operand_in_range places here kinds.Address text f h = (signed_range h.0 f.imm h.3, register_range h.4.0 f.rs1 h.4.2)
+operand_in_range places here kinds.Base text f h = register_range h.0 f.rs1 h.2
+operand_in_range places here kinds.Word text f h = word_range text f.wide h
+operand_in_range places here kinds.Value text f h = value_text_range places text f.wide h
 
-operand_step : (places : List ℕ → Option ℕ) (here : ℕ) (kind : Kind) (text : List ℕ) (f g : Fields) (P : Fields → Type 0) → operand places here kind text f ≡ Ok g → Step kind f P → P g
-unfolding operand
-operand_step places here kinds.Rd text f g P e step = step_by (register text) (λ r. record f { rd = r }) g P (λ r. r < 32) (register_range text) step e
-operand_step places here kinds.Rs1 text f g P e step = step_by (register text) (λ r. record f { rs1 = r }) g P (λ r. r < 32) (register_range text) step e
-operand_step places here kinds.Rs2 text f g P e step = step_by (register text) (λ r. record f { rs2 = r }) g P (λ r. r < 32) (register_range text) step e
-operand_step places here kinds.Immediate text f g P e step = step_by (signed_number 2048 2047 text) (λ z. record f { imm = z }) g P (IsSigned 12) (signed_range text) step e
-operand_step places here kinds.Shift text f g P e step = step_by (unsigned_number 31 text) (λ n. record f { rs2 = n }) g P (λ n. n ≤ 31) (unsigned_range 31 text) (λ n h. step n (omega arith)) e
-operand_step places here kinds.Small text f g P e step = step_by (unsigned_number 31 text) (λ n. record f { rs1 = n }) g P (λ n. n ≤ 31) (unsigned_range 31 text) (λ n h. step n (omega arith)) e
-operand_step places here kinds.Csr text f g P e step = step_by (unsigned_number 4095 text) (λ n. record f { wide = n }) g P (λ n. n ≤ 4095) (unsigned_range 4095 text) (λ n h. step n (omega arith)) e
-operand_step places here kinds.Upper text f g P e step = step_by (unsigned_number 0xFFFFF text) (λ n. record f { wide = n }) g P (λ n. n ≤ 0xFFFFF) (unsigned_range 0xFFFFF text) (λ n h. step n (omega arith)) e
-operand_step places here kinds.Branch text f g P e step = step_by (target places here 4096 4094 text) (λ z. record f { imm = z }) g P (IsOffset 13) (λ z h. target_range places here 4096 4094 13 text z (omega arith) (omega arith) h) step e
-operand_step places here kinds.Jump text f g P e step = step_by (target places here 1048576 1048574 text) (λ z. record f { imm = z }) g P (IsOffset 21) (λ z h. target_range places here 1048576 1048574 21 text z (omega arith) (omega arith) h) step e
-operand_step places here kinds.Address text f g P e step = step_by (address_parts text) (λ p. record f { imm = p.0; rs1 = p.1 }) g P (λ p. IsSigned 12 p.0 × (p.1 < 32)) (address_range text) (λ p h. step p.0 h.0 p.1 h.1) e
-operand_step places here kinds.Base text f g P e step = step_by (base_register text) (λ r. record f { rs1 = r }) g P (λ r. r < 32) (base_range text) step e
-operand_step places here kinds.Word text f g P e step = step_by (word_number text) (λ n. record f { wide = n }) g P (λ n. Unit {0}) (λ n h. tt) (λ n h. step n) e
-operand_step places here kinds.Value text f g P e step = step_by (word_value places text) (λ n. record f { wide = n }) g P (λ n. Unit {0}) (λ n h. tt) (λ n h. step n) e
+operands_in_range : (places : List ℕ → Option ℕ) (here : ℕ) (kind : Kind) (more : List Kind) (text : List ℕ) (f : Operands) → AreOperandTexts places here kind more text f → AreInRange (kind ∷ more) f
+operands_in_range places here kind [] text f h = (operand_in_range places here kind text f h, tt)
+operands_in_range places here kind (next ∷ more) text f h = (operand_in_range places here kind h.0 f h.3, operands_in_range places here next more h.1 f h.4)
 
-next_step : (places : List ℕ → Option ℕ) (here : ℕ) (kind : Kind) (text : Option (List ℕ)) (f : Fields) (n : Fields × Option (List ℕ)) (P : Fields → Type 0) → next_operand places here kind text f ≡ Ok n → Step kind f P → P n.0
-unfolding next_operand
-next_step places here kind None f n P e step = absurd cc
-next_step places here kind (Some text) f n P e step =
-    let a = bind_ok (operand places here kind (cut 44 text).before f) (λ g. behind_comma (cut 44 text).after >>= λ rest. Ok (g, rest)) n e in
-    let b = bind_ok (behind_comma (cut 44 text).after) (λ rest. Ok (a.0, rest)) n a.2 in
-    subst (λ (q : Fields × Option (List ℕ)). P q.0) (ok_is (a.0, b.0) n b.2) (operand_step places here kind (cut 44 text).before f a.0 P a.1 step)
-
-finished_is : (text : Option (List ℕ)) (f g : Fields) → finished text f ≡ Ok g → f ≡ g
-finished_is None f g e = ok_is f g e
-finished_is (Some text) f g e = absurd cc
-
--- what every reading of operands of these kinds leads to
-pub operands_after : (places : List ℕ → Option ℕ) (here : ℕ) (kinds : List Kind) (text : Option (List ℕ)) (f g : Fields) (P : Fields → Type 0) → operands places here kinds text f ≡ Ok g → After kinds f P → P g
-unfolding operands
-operands_after places here [] text f g P e after = subst P (finished_is text f g e) after
-operands_after places here (kind ∷ more) text f g P e after =
-    let a = bind_ok (next_operand places here kind text f) (λ next. operands places here more next.1 next.0) g e in
-    operands_after places here more a.0.1 a.0.0 g P a.2 (next_step places here kind text f a.0 (λ h. After more h P) a.1 after)
+pub row_texts_in_range : (places : List ℕ → Option ℕ) (here : ℕ) (name : List ℕ) (kinds : List Kind) (text : List ℕ) (f : Operands) → IsStatementText places here name kinds text f → AreInRange kinds f
+row_texts_in_range places here name [] text f h = tt
+row_texts_in_range places here name (kind ∷ more) text f h = operands_in_range places here kind more h.0 f h.2

@@ -1,9 +1,10 @@
 pub mod Faults
-pub mod Forms
-pub mod Grammar
-pub mod Lines
+pub mod Reading
 pub mod Operands
-pub mod Parts
-pub mod Program
 pub mod Statements
+pub mod Grammar
+pub mod Labels
+pub mod Lines
+pub mod Program
 pub mod Texts
+pub mod Words

@@ -1,41 +1,23 @@
--- What a statement says, and the words that say it.
-use Rattle.std.specs.Prelude.{◌≡◌, ℕ, ◌+◌, ◌/◌, ◌%◌, ◌^◌, ◌<◌, ℤ, List, [], ◌∷◌, ◌++◌, Option, Some, None, Result, Ok, Err, codes, if◌then◌else◌}
-use Rattle.std.specs.List.{flat_map}
-use Rattle.std.specs.Int.{w32, to_le_bytes}
+-- The words of a statement.
+use Rattle.std.specs.Prelude.{ℕ, ◌+◌, ◌/◌, ◌%◌, ◌^◌, Bool, false, ℤ, pos, List, [], ◌∷◌, Option, Some, None, Result, Ok, Err, codes, if◌then◌else◌}
 use Rattle.std.specs.Str.{bytes_eq}
+use Rattle.shared_definitions.specs.Ascii.{space}
+use Rattle.ascii_text.specs.Cuts.{Halves, cut}
 use Rattle.rv_isa.specs.Fields.{signed}
-use Rattle.rv_isa.specs.Table.{decode, IsEncodable}
-use Rattle.rv_isa.specs.declared.instr.Instr.{Instr}
+use Rattle.rv_isa.specs.Words as isa
 use Rattle.rv_isa.specs.declared.instr.Instr.TheVariants.{Lui, Addi}
-use Rattle.rv_text.specs.Cuts.{cut}
+use Rattle.rv_forms.specs.declared.kinds.Kind.TheVariants as kinds
+use Rattle.rv_forms.specs.declared.kinds.Operands.{Operands}
+use Rattle.rv_forms.specs.Forms.{kinds_of, word_of}
+use Rattle.rv_forms.specs.Names.{Name, name_of}
 use Rattle.rv_asm.specs.declared.fault.Why.{Why}
 use Rattle.rv_asm.specs.declared.fault.Why.TheVariants.{Word}
-use Rattle.rv_asm.specs.declared.kinds.Kind.TheVariants as kinds
-use Rattle.rv_asm.specs.declared.statements.Meaning.{Meaning}
-use Rattle.rv_asm.specs.declared.statements.Meaning.TheVariants.{Data, Says, Loads}
 use Rattle.rv_asm.specs.Faults.{◌>>=◌}
-use Rattle.rv_asm.specs.Forms.{blank, form_of, filled, named}
 use Rattle.rv_asm.specs.Operands.{operands}
 
--- the row with this name, filled with its operands
-abbrev pub row_of : (List ℕ → Option ℕ) → ℕ → Option Instr → Option (List ℕ) → Result Meaning Why
-row_of places here None rest = Err Word
-row_of places here (Some row) rest = operands places here (form_of row).operands rest blank >>= λ f. Ok (Says (filled row f))
-
-abbrev pub data_of : (List ℕ → Option ℕ) → ℕ → Option (List ℕ) → Result Meaning Why
-data_of places here rest = operands places here (kinds.Word ∷ []) rest blank >>= λ f. Ok (Data f.wide)
-
-abbrev pub loads : (List ℕ → Option ℕ) → ℕ → Option (List ℕ) → Result Meaning Why
-loads places here rest = operands places here (kinds.Rd ∷ kinds.Value ∷ []) rest blank >>= λ f. Ok (Loads f.rd f.wide)
-
--- a statement's name, and behind a blank its operands
-unfoldable pub statement : (List ℕ → Option ℕ) → ℕ → List ℕ → Result Meaning Why
-statement places here text =
-    if bytes_eq (cut 32 text).before (codes ".word")
-    then data_of places here (cut 32 text).after
-    else (if bytes_eq (cut 32 text).before (codes "li")
-    then loads places here (cut 32 text).after
-    else row_of places here (named (cut 32 text).before) (cut 32 text).after)
+-- no value yet, with these order bits
+abbrev pub blank : Bool → Bool → Operands
+blank aq rl = record { rd = 0; rs1 = 0; rs2 = 0; imm = pos 0; wide = 0; aq = aq; rl = rl }
 
 -- a number is the upper 20 bits of one word and a signed 12-bit number, modulo 2^32
 abbrev pub upper_part : ℕ → ℕ
@@ -44,19 +26,30 @@ upper_part n = (n + 2 ^ 11) / 2 ^ 12 % 2 ^ 20
 abbrev pub lower_part : ℕ → ℤ
 lower_part n = signed 12 (n % 2 ^ 12)
 
--- the words of a statement: a word says an instruction by the instruction table, and `li` is LUI and ADDI
-abbrev pub AreWords : Meaning → List ℕ → Type 0
-AreWords (Data word) words = words ≡ word ∷ []
-AreWords (Says instr) words = (word : ℕ) × (word < 2 ^ 32) × (decode word ≡ Some instr) × (words ≡ word ∷ [])
-AreWords (Loads rd value) words =
-    (first : ℕ) × (second : ℕ) × (first < 2 ^ 32) × (second < 2 ^ 32) × (decode first ≡ Some (Lui rd (upper_part value))) × (decode second ≡ Some (Addi rd rd (lower_part value))) × (words ≡ first ∷ second ∷ [])
+-- LUI and ADDI
+abbrev pub load_words : ℕ → ℕ → List ℕ
+load_words rd n = isa.word_of (Lui rd (upper_part n)) ∷ isa.word_of (Addi rd rd (lower_part n)) ∷ []
 
--- some word says it
-abbrev pub IsSaid : Meaning → Type 0
-IsSaid (Data word) = Unit {0}
-IsSaid (Says instr) = IsEncodable instr
-IsSaid (Loads rd value) = rd < 32
+abbrev pub data_words : (List ℕ → Option ℕ) → ℕ → Option (List ℕ) → Result (List ℕ) Why
+data_words places here rest = operands places here (kinds.Word ∷ []) rest (blank false false) >>= λ f. Ok (f.wide ∷ [])
 
--- the bytes with those of the statement's words behind them, each little-endian
-abbrev pub Writes : List ℕ → List ℕ → Meaning → Type 0
-Writes old new meaning = (words : List ℕ) × AreWords meaning words × (new ≡ old ++ flat_map (to_le_bytes w32) words)
+abbrev pub li_words : (List ℕ → Option ℕ) → ℕ → Option (List ℕ) → Result (List ℕ) Why
+li_words places here rest = operands places here (kinds.Rd ∷ kinds.Value ∷ []) rest (blank false false) >>= λ f. Ok (load_words f.rd f.wide)
+
+-- the word of the instruction with this name
+abbrev pub instruction_words : (List ℕ → Option ℕ) → ℕ → Option Name → Option (List ℕ) → Result (List ℕ) Why
+instruction_words places here None rest = Err Word
+instruction_words places here (Some n) rest =
+    operands places here (kinds_of n.mnemonic.syntax) rest (blank n.aq n.rl) >>= λ f. Ok (word_of n.mnemonic.syntax n.mnemonic.value f ∷ [])
+
+-- a name, and after a space its operands
+abbrev pub words_by : (List ℕ → Option ℕ) → ℕ → Halves → Result (List ℕ) Why
+words_by places here halves =
+    if bytes_eq halves.before (codes ".word")
+    then data_words places here halves.after
+    else (if bytes_eq halves.before (codes "li")
+    then li_words places here halves.after
+    else instruction_words places here (name_of halves.before) halves.after)
+
+unfoldable pub statement : (List ℕ → Option ℕ) → ℕ → List ℕ → Result (List ℕ) Why
+statement places here text = words_by places here (cut space text)

@@ -1,12 +1,22 @@
-//! The grammar of a statement, and how it is read.
+//! The grammar of a statement, how it is read, and what `li` loads.
 
-ghost use Rattle.std.specs.Prelude.{◌≡◌, ℕ, List, Option, Ok};
-ghost use Rattle.rv_asm.specs.declared.statements.Meaning.{Meaning};
+ghost use Rattle.std.specs.Prelude.{◌≡◌, ℕ, ◌<◌, ◌^◌, ◌*◌, ◌+◌, ◌%◌, List, Option, Ok, Some};
+ghost use Rattle.rv_isa.specs.Table.{decode};
+ghost use Rattle.rv_isa.specs.Words.{unsigned, word_of};
+ghost use Rattle.rv_isa.specs.declared.instr.Instr.TheVariants.{Lui, Addi};
 ghost use Rattle.rv_asm.specs.Grammar.{IsStatement};
-ghost use Rattle.rv_asm.specs.Statements.{statement};
+ghost use Rattle.rv_asm.specs.Statements.{statement, upper_part, lower_part};
 
-/// A statement's text says by the grammar exactly what reading it from left to right gives.
+/// A text stands by the grammar for exactly the words that reading it from left to right gives.
 pub fn grammar_is_read()
-    ensures found { (places : List ℕ → Option ℕ) (here : ℕ) (text : List ℕ) (meaning : Meaning) → statement places here text ≡ Ok meaning → IsStatement places here text meaning }
-    ensures only { (places : List ℕ → Option ℕ) (here : ℕ) (text : List ℕ) (meaning : Meaning) → IsStatement places here text meaning → statement places here text ≡ Ok meaning }
+    ensures found { (places : List ℕ → Option ℕ) (here : ℕ) (text words : List ℕ) → statement places here text ≡ Ok words → IsStatement places here text words }
+    ensures only { (places : List ℕ → Option ℕ) (here : ℕ) (text words : List ℕ) → IsStatement places here text words → statement places here text ≡ Ok words }
+{}
+
+/// The words of `li` are LUI and ADDI to the register, and what LUI puts there and the sign-extended number
+/// that ADDI adds give the number, modulo 2^32.
+pub fn li_loads_its_number()
+    ensures upper { (rd n : ℕ) → rd < 32 → decode (word_of (Lui rd (upper_part n))) ≡ Some (Lui rd (upper_part n)) }
+    ensures lower { (rd n : ℕ) → rd < 32 → decode (word_of (Addi rd rd (lower_part n))) ≡ Some (Addi rd rd (lower_part n)) }
+    ensures sum { (n : ℕ) → n < 2 ^ 32 → (upper_part n * 2 ^ 12 + unsigned 32 (lower_part n)) % 2 ^ 32 ≡ n }
 {}

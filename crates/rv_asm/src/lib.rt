@@ -1,20 +1,19 @@
 //! The assembler and the disassembler.
 #![tactic(auto)]
 
-mod examples;
 mod fault;
-mod forms;
 mod grammar;
-mod kinds;
 mod lines;
+mod loads;
 mod operands;
+mod places;
 mod program;
+mod reading;
 mod statements;
-mod words;
 mod writing;
 
 pub use fault::{AsmFault, Why};
-pub use grammar::grammar_is_read;
+pub use grammar::{grammar_is_read, li_loads_its_number};
 pub use program::assemble;
 pub use writing::disassemble;
 

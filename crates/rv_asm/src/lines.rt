@@ -1,10 +1,18 @@
 //! The lines of a text: labels, statements and their places.
 
-ghost use Rattle.std.specs.Prelude.{◌≡◌, ◌<◌, ◌≤◌, ◌^◌, ◌+◌, ◌*◌, map, length, IfSome};
+ghost use Rattle.std.specs.Prelude.{◌≡◌, ◌≤◌, ◌*◌, ℕ, List, map, length, IfOk, OnOk};
 ghost use Rattle.std.specs.Option.{option_copied};
-ghost use Rattle.rv_asm.specs.Lines.{label_of, line_of, word_count, is_named, place_of};
+ghost use Rattle.rv_asm.specs.Labels.{place_in, with_label};
+ghost use Rattle.rv_asm.specs.Lines.{label_of, line_of, word_count, place_of};
 
-use rv_text::{cut, is_label};
+use crate::places::Place;
+use crate::reading::is_label;
+use ascii_text::cut;
+use std::alloc::{AllocError, Global};
+use std::collections::BTreeMap;
+
+/// The labels of a text, each with its first place.
+pub type Labels<'t> = BTreeMap<&'t [u8], Place>;
 
 /// A line: a label, perhaps, and a statement, perhaps.
 #[derive(Clone, Copy)]
@@ -13,6 +21,7 @@ pub struct Line<'a> {
     pub statement: Option<&'a [u8]>,
 }
 
+/// The label that a word is, if it ends in a colon and has a label's form before it.
 #[tactic(auto, unfolding(crate::specs::Lines::label_of))]
 fn label_of(word: &[u8]) -> Option<&[u8]>
     ensures { option_copied result ≡ label_of word.now }
@@ -58,35 +67,37 @@ pub fn word_count(statement: Option<&[u8]>) -> u64
     }
 }
 
-/// How many words the statement of a line's text stands for.
-pub fn count_of(text: &[u8]) -> u64
-    ensures count { result ≡ word_count (line_of text.now).statement }
-    ensures small { result ≤ 2 }
+/// Adds the label, unless it has a place already.
+fn add_label<'t>(
+    labels: &mut Labels<'t>,
+    label: Option<&'t [u8]>,
+    place: Place,
+) -> Result<(), AllocError>
+    ensures { OnOk result ((name : List ℕ) → place_in labels.new name ≡ with_label (option_copied label.entry) place (place_in labels.old) name) }
 {
-    word_count(line_of(text).statement)
-}
-
-fn is_named(label: Option<&[u8]>, name: &[u8]) -> bool
-    ensures { result ≡ is_named (option_copied label.entry) name.now }
-{
-    match label {
-        None => false,
-        Some(label) => label == name,
+    let Some(label) = label else {
+        return Ok(());
+    };
+    if !labels.contains_key(&label) {
+        labels.insert(label, place)?;
     }
+    Ok(())
 }
 
-/// The place of the first line with this label: how many words stand before it.
-pub fn place_of(lines: &[&str], name: &[u8]) -> Option<u64>
-    ensures place { result ≡ place_of (map (λ line. line.now) lines.now) name.now }
-    ensures small { IfSome result (λ place. place ≤ 2 * length lines.now) }
+/// The labels of the lines, each with its first place.
+pub fn labels_of<'t>(alloc: Global, lines: &[&'t str]) -> Result<Labels<'t>, AllocError>
+    ensures places { IfOk result (λ labels. (name : List ℕ) → place_in labels name ≡ place_of (map (λ line. line.now) lines.now) name) }
 {
-    let mut place = 0u64;
-    for text in lines {
+    let mut labels = BTreeMap::new(alloc);
+    let mut words = 0u64;
+    for (index, text) in lines.iter().enumerate() {
         let line = line_of(text.as_bytes());
-        if is_named(line.label, name) {
-            return Some(place);
-        }
-        place += word_count(line.statement);
+        let place = Place {
+            line: index as u64,
+            words,
+        };
+        add_label(&mut labels, line.label, place)?;
+        words += word_count(line.statement);
     }
-    None
+    Ok(labels)
 }

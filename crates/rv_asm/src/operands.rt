@@ -1,28 +1,29 @@
 //! The operands of a statement, read from left to right.
 
-ghost use Rattle.std.specs.Prelude.{◌≡◌, ◌<◌, ◌≤◌, ◌^◌, ◌+◌, ◌*◌, map, Some, Option, List, ℕ, option_map, length, IfOk, Ok};
+ghost use Rattle.std.specs.Prelude.{◌≡◌, ◌<◌, ◌≤◌, ◌^◌, ◌+◌, ◌*◌, Some, Ok, Err, IfOk, option_map, length};
 ghost use Rattle.std.specs.Option.{option_copied};
-ghost use Rattle.rv_asm.specs.Lines.{place_of};
-ghost use Rattle.rv_asm.specs.Operands.{register, signed, even, unsigned, word, named_place, distance, address, closed, bracketed, target, label_target, signed_number, unsigned_number, word_number, word_value, label_value, base_register, address_parts, operand, behind_comma, next_operand, finished, operands, seen};
+ghost use Rattle.rv_asm.specs.Labels.{words_in};
+ghost use Rattle.rv_asm.specs.Operands.{register, value, word, even, near, named_place, distance, address, in_memory, closed, bracketed, target, label_target, signed_number, unsigned_number, word_number, word_value, label_value, base_register, address_parts, operand, after_comma, next_operand, finish, operands, view_by};
 
 use crate::fault::Why;
-use crate::kinds::{Fields, Kind};
-use crate::lines::place_of;
-use rv_text::{Number, cut, is_label, read_number, read_register};
+use crate::lines::Labels;
+use crate::reading::{Number, is_label, number_within, register_of};
+use ascii_text::{NumberFault, cut};
+use rv_forms::{Kind, Operands};
 
-/// Where a statement stands: among which lines, and how many words stand before it.
+/// Where a statement stands: among which labels, and how many words stand before it.
 #[derive(Drop)]
 pub struct Context<'a, 't> {
-    pub lines: &'a [&'t str],
+    pub labels: &'a Labels<'t>,
     pub here: u64,
-    ghost small: { here < 2 ^ 61 },
 }
 
+/// The register that the text names.
 #[tactic(auto, unfolding(crate::specs::Operands::register))]
 fn register(text: &[u8]) -> Result<u8, Why>
     ensures { result ≡ register text.now }
 {
-    match read_register(text) {
+    match register_of(text) {
         Some(register) => Ok(register),
         None => {
             if is_label(text) {
@@ -34,105 +35,180 @@ fn register(text: &[u8]) -> Result<u8, Why>
     }
 }
 
-fn signed(low: u64, high: u64, number: Number) -> Result<i32, Why>
-    requires low { low < 2 ^ 31 }
-    requires high { high < 2 ^ 31 }
-    ensures { result ≡ signed low high number }
+/// The number with its sign.
+fn value(number: Number) -> i32
+    requires { number.magnitude < 2 ^ 31 }
+    ensures { result ≡ value number }
 {
-    let bound = if number.negative { low } else { high };
-    if number.magnitude > bound {
-        return Err(Why::Range);
-    }
     let magnitude = number.magnitude as i32;
-    Ok(if number.negative {
+    if number.negative {
         -magnitude
     } else {
         magnitude
-    })
+    }
 }
 
-fn even(low: u64, high: u64, number: Number) -> Result<i32, Why>
-    requires low { low < 2 ^ 31 }
-    requires high { high < 2 ^ 31 }
-    ensures { result ≡ even low high number }
+/// The number modulo 2^32.
+fn word(number: Number) -> u32
+    requires { number.magnitude < 2 ^ 32 }
+    ensures { result ≡ word number }
 {
-    let value = signed(low, high, number)?;
+    let magnitude = number.magnitude as u32;
+    if number.negative {
+        magnitude.wrapping_neg()
+    } else {
+        magnitude
+    }
+}
+
+/// The number, if it is even.
+fn even(number: Number) -> Result<i32, Why>
+    requires { number.magnitude < 2 ^ 31 }
+    ensures { result ≡ even number }
+{
     if number.magnitude % 2 == 0 {
-        Ok(value)
+        Ok(value(number))
     } else {
         Err(Why::Range)
     }
 }
 
-fn unsigned(high: u32, number: Number) -> Result<u32, Why>
-    ensures exact { result ≡ unsigned high number }
-    ensures within { IfOk result (λ n. n ≤ high) }
+/// A number from -2048 to 2047.
+#[tactic(auto, unfolding(crate::specs::Operands::signed_number))]
+fn signed_number(text: &[u8]) -> Result<i32, Why>
+    ensures { result ≡ signed_number text.now }
 {
-    let bound = if number.negative { 0 } else { high as u64 };
-    if number.magnitude > bound {
-        return Err(Why::Range);
-    }
-    Ok(number.magnitude as u32)
-}
-
-fn word(number: Number) -> Result<u32, Why>
-    ensures { result ≡ word number }
-{
-    let bound = if number.negative {
-        1 << 31
-    } else {
-        (1 << 32) - 1
-    };
-    if number.magnitude > bound {
-        return Err(Why::Range);
-    }
-    let magnitude = number.magnitude as u32;
-    Ok(if number.negative {
-        magnitude.wrapping_neg()
-    } else {
-        magnitude
-    })
-}
-
-fn named_place(context: &Context<'_, '_>, text: &[u8]) -> Result<u64, Why>
-    ensures place { result ≡ named_place (place_of (map (λ line. line.now) context.now.lines.now)) text.now }
-    ensures small { IfOk result (λ place. place < 2 ^ 61) }
-{
-    if is_label(text) {
-        place_of(context.lines, text).ok_or(Why::Label)
-    } else {
-        Err(Why::Word)
+    match number_within(2048, 2047, text) {
+        Ok(number) => Ok(value(number)),
+        Err(NumberFault::TooLarge) => Err(Why::Range),
+        Err(NumberFault::NoNumber) => Err(Why::Word),
     }
 }
 
-fn distance(here: u64, place: u64) -> Number
-    requires here { here < 2 ^ 61 }
-    requires place { place < 2 ^ 61 }
-    ensures { result ≡ distance here place }
+/// A number from 0 to `high`.
+#[tactic(auto, unfolding(crate::specs::Operands::unsigned_number))]
+fn unsigned_number(high: u32, text: &[u8]) -> Result<u32, Why>
+    ensures exact { result ≡ unsigned_number high text.now }
+    ensures small { IfOk result (λ n. n ≤ high) }
+{
+    match number_within(0, high as u64, text) {
+        Ok(number) => Ok(number.magnitude as u32),
+        Err(NumberFault::TooLarge) => Err(Why::Range),
+        Err(NumberFault::NoNumber) => Err(Why::Word),
+    }
+}
+
+/// A number of a word.
+#[tactic(auto, unfolding(crate::specs::Operands::word_number))]
+fn word_number(text: &[u8]) -> Result<u32, Why>
+    ensures { result ≡ word_number text.now }
+{
+    match number_within(1 << 31, (1 << 32) - 1, text) {
+        Ok(number) => Ok(word(number)),
+        Err(NumberFault::TooLarge) => Err(Why::Range),
+        Err(NumberFault::NoNumber) => Err(Why::Word),
+    }
+}
+
+/// How many words stand before the label.
+fn named_place<'t>(context: &Context<'_, 't>, text: &'t [u8]) -> Result<u64, Why>
+    ensures { result ≡ named_place (words_in context.now.labels.now) text.now }
+{
+    if !is_label(text) {
+        return Err(Why::Word);
+    }
+    match context.labels.get(&text) {
+        Some(place) => Ok(place.words),
+        None => Err(Why::Label),
+    }
+}
+
+/// The bytes from the word at `here` to the word at `place`, if they are from -`low` to `high`.
+fn near(low: u32, high: u32, here: u64, place: u64) -> Result<i32, Why>
+    requires low { low < 2 ^ 31 }
+    requires high { high < 2 ^ 31 }
+    ensures { result ≡ near low high (distance here place) }
 {
     if here <= place {
-        Number {
-            negative: false,
-            magnitude: 4 * (place - here),
+        let words = place - here;
+        if words <= high as u64 / 4 {
+            Ok(4 * words as i32)
+        } else {
+            Err(Why::Range)
         }
     } else {
-        Number {
-            negative: true,
-            magnitude: 4 * (here - place),
+        let words = here - place;
+        if words <= low as u64 / 4 {
+            Ok(-(4 * words as i32))
+        } else {
+            Err(Why::Range)
         }
     }
 }
 
-fn address(place: u64) -> Number
-    requires { place < 2 ^ 61 }
-    ensures { result ≡ address place }
+/// The distance to a label.
+#[tactic(auto, unfolding(crate::specs::Operands::label_target))]
+fn label_target<'t>(
+    context: &Context<'_, 't>,
+    low: u32,
+    high: u32,
+    text: &'t [u8],
+) -> Result<i32, Why>
+    requires low { low < 2 ^ 31 }
+    requires high { high < 2 ^ 31 }
+    ensures { result ≡ label_target (words_in context.now.labels.now) context.now.here low high text.now }
 {
-    Number {
-        negative: false,
-        magnitude: (1 << 31) + 4 * place,
+    let place = named_place(context, text)?;
+    near(low, high, context.here, place)
+}
+
+/// A label, or an even distance.
+#[tactic(auto, unfolding(crate::specs::Operands::target))]
+fn target<'t>(context: &Context<'_, 't>, low: u32, high: u32, text: &'t [u8]) -> Result<i32, Why>
+    requires low { low < 2 ^ 31 }
+    requires high { high < 2 ^ 31 }
+    ensures { result ≡ target (words_in context.now.labels.now) context.now.here low high text.now }
+{
+    match number_within(low as u64, high as u64, text) {
+        Ok(number) => even(number),
+        Err(NumberFault::TooLarge) => Err(Why::Range),
+        Err(NumberFault::NoNumber) => label_target(context, low, high, text),
     }
 }
 
+/// The address of the word at a place, which stands below 2^32.
+fn address(place: u64) -> Result<u32, Why>
+    ensures { result ≡ in_memory (address place) }
+{
+    if place < 1 << 29 {
+        Ok((1 << 31) + 4 * place as u32)
+    } else {
+        Err(Why::Range)
+    }
+}
+
+/// The address of a label.
+#[tactic(auto, unfolding(crate::specs::Operands::label_value))]
+fn label_value<'t>(context: &Context<'_, 't>, text: &'t [u8]) -> Result<u32, Why>
+    ensures { result ≡ label_value (words_in context.now.labels.now) text.now }
+{
+    let place = named_place(context, text)?;
+    address(place)
+}
+
+/// A label, or a number of a word.
+#[tactic(auto, unfolding(crate::specs::Operands::word_value))]
+fn word_value<'t>(context: &Context<'_, 't>, text: &'t [u8]) -> Result<u32, Why>
+    ensures { result ≡ word_value (words_in context.now.labels.now) text.now }
+{
+    match number_within(1 << 31, (1 << 32) - 1, text) {
+        Ok(number) => Ok(word(number)),
+        Err(NumberFault::TooLarge) => Err(Why::Range),
+        Err(NumberFault::NoNumber) => label_value(context, text),
+    }
+}
+
+/// The register, if the text ends after it.
 fn closed(rest: Option<&[u8]>, register: u8) -> Result<u8, Why>
     ensures { result ≡ closed (option_copied rest.entry) register }
 {
@@ -142,6 +218,7 @@ fn closed(rest: Option<&[u8]>, register: u8) -> Result<u8, Why>
     }
 }
 
+/// The register that stands after an opening parenthesis.
 fn bracketed(text: Option<&[u8]>) -> Result<u8, Why>
     ensures { result ≡ bracketed (option_copied text.entry) }
 {
@@ -155,74 +232,7 @@ fn bracketed(text: Option<&[u8]>) -> Result<u8, Why>
     }
 }
 
-#[tactic(auto, unfolding(crate::specs::Operands::label_target))]
-fn label_target(context: &Context<'_, '_>, low: u64, high: u64, text: &[u8]) -> Result<i32, Why>
-    requires low { low < 2 ^ 31 }
-    requires high { high < 2 ^ 31 }
-    ensures { result ≡ label_target (place_of (map (λ line. line.now) context.now.lines.now)) context.now.here low high text.now }
-{
-    let place = named_place(context, text)?;
-    even(low, high, distance(context.here, place))
-}
-
-fn target(context: &Context<'_, '_>, low: u64, high: u64, text: &[u8]) -> Result<i32, Why>
-    requires low { low < 2 ^ 31 }
-    requires high { high < 2 ^ 31 }
-    ensures { result ≡ target (place_of (map (λ line. line.now) context.now.lines.now)) context.now.here low high text.now }
-{
-    match read_number(text) {
-        Some(number) => even(low, high, number),
-        None => label_target(context, low, high, text),
-    }
-}
-
-fn signed_number(low: u64, high: u64, text: &[u8]) -> Result<i32, Why>
-    requires low { low < 2 ^ 31 }
-    requires high { high < 2 ^ 31 }
-    ensures { result ≡ signed_number low high text.now }
-{
-    match read_number(text) {
-        Some(number) => signed(low, high, number),
-        None => Err(Why::Word),
-    }
-}
-
-fn unsigned_number(high: u32, text: &[u8]) -> Result<u32, Why>
-    ensures exact { result ≡ unsigned_number high text.now }
-    ensures within { IfOk result (λ n. n ≤ high) }
-{
-    match read_number(text) {
-        Some(number) => unsigned(high, number),
-        None => Err(Why::Word),
-    }
-}
-
-fn word_number(text: &[u8]) -> Result<u32, Why>
-    ensures { result ≡ word_number text.now }
-{
-    match read_number(text) {
-        Some(number) => word(number),
-        None => Err(Why::Word),
-    }
-}
-
-#[tactic(auto, unfolding(crate::specs::Operands::label_value))]
-fn label_value(context: &Context<'_, '_>, text: &[u8]) -> Result<u32, Why>
-    ensures { result ≡ label_value (place_of (map (λ line. line.now) context.now.lines.now)) text.now }
-{
-    let place = named_place(context, text)?;
-    word(address(place))
-}
-
-fn word_value(context: &Context<'_, '_>, text: &[u8]) -> Result<u32, Why>
-    ensures { result ≡ word_value (place_of (map (λ line. line.now) context.now.lines.now)) text.now }
-{
-    match read_number(text) {
-        Some(number) => word(number),
-        None => label_value(context, text),
-    }
-}
-
+/// A register in parentheses, and nothing before them.
 #[tactic(auto, unfolding(crate::specs::Operands::base_register))]
 fn base_register(text: &[u8]) -> Result<u8, Why>
     ensures { result ≡ base_register text.now }
@@ -234,47 +244,50 @@ fn base_register(text: &[u8]) -> Result<u8, Why>
     bracketed(rest)
 }
 
+/// A number, and a register in parentheses.
 #[tactic(auto, unfolding(crate::specs::Operands::address_parts))]
 fn address_parts(text: &[u8]) -> Result<(i32, u8), Why>
     ensures { result ≡ address_parts text.now }
 {
     let (offset, rest) = cut(text, b'(');
-    let offset = signed_number(2048, 2047, offset)?;
+    let offset = signed_number(offset)?;
     let register = bracketed(rest)?;
     Ok((offset, register))
 }
 
+/// The values with that of an operand of this kind.
 #[tactic(auto, unfolding(crate::specs::Operands::operand))]
-fn operand(
-    context: &Context<'_, '_>,
+fn operand<'t>(
+    context: &Context<'_, 't>,
     kind: Kind,
-    text: &[u8],
-    fields: Fields,
-) -> Result<Fields, Why>
-    ensures { result ≡ operand (place_of (map (λ line. line.now) context.now.lines.now)) context.now.here kind text.now fields }
+    text: &'t [u8],
+    values: Operands,
+) -> Result<Operands, Why>
+    ensures { result ≡ operand (words_in context.now.labels.now) context.now.here kind text.now values }
 {
-    let mut fields = fields;
+    let mut values = values;
     match kind {
-        Kind::Rd => fields.rd = register(text)?,
-        Kind::Rs1 => fields.rs1 = register(text)?,
-        Kind::Rs2 => fields.rs2 = register(text)?,
-        Kind::Immediate => fields.imm = signed_number(2048, 2047, text)?,
-        Kind::Shift => fields.rs2 = unsigned_number(31, text)? as u8,
-        Kind::Small => fields.rs1 = unsigned_number(31, text)? as u8,
-        Kind::Csr => fields.wide = unsigned_number(4095, text)?,
-        Kind::Upper => fields.wide = unsigned_number(0xfffff, text)?,
-        Kind::Branch => fields.imm = target(context, 4096, 4094, text)?,
-        Kind::Jump => fields.imm = target(context, 1048576, 1048574, text)?,
-        Kind::Address => (fields.imm, fields.rs1) = address_parts(text)?,
-        Kind::Base => fields.rs1 = base_register(text)?,
-        Kind::Word => fields.wide = word_number(text)?,
-        Kind::Value => fields.wide = word_value(context, text)?,
+        Kind::Rd => values.rd = register(text)?,
+        Kind::Rs1 => values.rs1 = register(text)?,
+        Kind::Rs2 => values.rs2 = register(text)?,
+        Kind::Immediate => values.imm = signed_number(text)?,
+        Kind::Shift => values.rs2 = unsigned_number(31, text)? as u8,
+        Kind::Small => values.rs1 = unsigned_number(31, text)? as u8,
+        Kind::Csr => values.wide = unsigned_number(4095, text)?,
+        Kind::Upper => values.wide = unsigned_number(0xFFFFF, text)?,
+        Kind::Branch => values.imm = target(context, 4096, 4094, text)?,
+        Kind::Jump => values.imm = target(context, 1048576, 1048574, text)?,
+        Kind::Address => (values.imm, values.rs1) = address_parts(text)?,
+        Kind::Base => values.rs1 = base_register(text)?,
+        Kind::Word => values.wide = word_number(text)?,
+        Kind::Value => values.wide = word_value(context, text)?,
     }
-    Ok(fields)
+    Ok(values)
 }
 
-fn behind_comma(text: Option<&[u8]>) -> Result<Option<&[u8]>, Why>
-    ensures { seen option_copied result ≡ behind_comma (option_copied text.entry) }
+/// What stands after a comma and a space.
+fn after_comma(text: Option<&[u8]>) -> Result<Option<&[u8]>, Why>
+    ensures { view_by option_copied result ≡ after_comma (option_copied text.entry) }
 {
     match text {
         None => Ok(None),
@@ -283,51 +296,53 @@ fn behind_comma(text: Option<&[u8]>) -> Result<Option<&[u8]>, Why>
     }
 }
 
+/// The values with that of the next operand, and what stands after the comma that ends it.
 #[tactic(auto, unfolding(crate::specs::Operands::next_operand))]
-fn next_operand<'a>(
-    context: &Context<'_, '_>,
+fn next_operand<'t>(
+    context: &Context<'_, 't>,
     kind: Kind,
-    text: Option<&'a [u8]>,
-    fields: Fields,
-) -> Result<(Fields, Option<&'a [u8]>), Why>
-    ensures { seen (λ next. (next.0, option_copied next.1)) result
-        ≡ next_operand (place_of (map (λ line. line.now) context.now.lines.now)) context.now.here kind (option_copied text.entry) fields }
+    text: Option<&'t [u8]>,
+    values: Operands,
+) -> Result<(Operands, Option<&'t [u8]>), Why>
+    ensures { view_by (λ next. (next.0, option_copied next.1)) result
+        ≡ next_operand (words_in context.now.labels.now) context.now.here kind (option_copied text.entry) values }
 {
     match text {
         None => Err(Why::Word),
         Some(text) => {
             let (piece, after) = cut(text, b',');
-            let fields = operand(context, kind, piece, fields)?;
-            let rest = behind_comma(after)?;
-            Ok((fields, rest))
+            let values = operand(context, kind, piece, values)?;
+            let rest = after_comma(after)?;
+            Ok((values, rest))
         }
     }
 }
 
-fn finished(text: Option<&[u8]>, fields: Fields) -> Result<Fields, Why>
-    ensures { result ≡ finished (option_copied text.entry) fields }
+/// The values, if no text is left over.
+fn finish(text: Option<&[u8]>, values: Operands) -> Result<Operands, Why>
+    ensures { result ≡ finish (option_copied text.entry) values }
 {
     match text {
-        None => Ok(fields),
+        None => Ok(values),
         Some(_) => Err(Why::Word),
     }
 }
 
 /// The values of operands of these kinds, beginning with the values given.
 #[tactic(auto, unfolding(crate::specs::Operands::operands))]
-pub fn operands(
-    context: &Context<'_, '_>,
+pub fn operands<'t>(
+    context: &Context<'_, 't>,
     kinds: &[Kind],
-    text: Option<&[u8]>,
-    fields: Fields,
-) -> Result<Fields, Why>
-    ensures { result ≡ operands (place_of (map (λ line. line.now) context.now.lines.now)) context.now.here kinds.now (option_copied text.entry) fields }
+    text: Option<&'t [u8]>,
+    values: Operands,
+) -> Result<Operands, Why>
+    ensures { result ≡ operands (words_in context.now.labels.now) context.now.here kinds.now (option_copied text.entry) values }
 {
     match kinds {
-        [] => finished(text, fields),
+        [] => finish(text, values),
         [kind, more @ ..] => {
-            let (fields, rest) = next_operand(context, *kind, text, fields)?;
-            operands(context, more, rest, fields)
+            let (values, rest) = next_operand(context, *kind, text, values)?;
+            operands(context, more, rest, values)
         }
     }
 }

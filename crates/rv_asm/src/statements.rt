@@ -1,83 +1,88 @@
-//! What a statement says.
+//! The words of a statement.
 
-ghost use Rattle.std.specs.Prelude.{◌≡◌, map};
+ghost use Rattle.std.specs.Prelude.{◌≡◌, option_map};
 ghost use Rattle.std.specs.Option.{option_copied};
-ghost use Rattle.rv_asm.specs.Lines.{place_of};
-ghost use Rattle.rv_asm.specs.Forms.{blank};
-ghost use Rattle.rv_asm.specs.Statements.{row_of, data_of, loads, statement};
+ghost use Rattle.rv_forms.specs.Names.{name as name_of_code};
+ghost use Rattle.rv_asm.specs.Labels.{words_in};
+ghost use Rattle.rv_asm.specs.Operands.{view_by};
+ghost use Rattle.rv_asm.specs.Statements.{blank, data_words, li_words, instruction_words, statement};
+ghost use Rattle.rv_asm.specs.Words.{words_of};
 
-use crate::examples::named;
 use crate::fault::Why;
-use crate::forms::{filled, parts_of};
-use crate::kinds::{Fields, Kind};
+use crate::loads::load_words;
 use crate::operands::{Context, operands};
-use rv_isa::Instr;
-use rv_text::cut;
+use ascii_text::cut;
+use rv_forms::{Kind, Name, Operands, kinds_of, read_name, word_of};
 
-/// What a statement says.
+/// The words of a statement: `li` has two, any other one.
 #[derive(Clone, Copy)]
-pub enum Meaning {
-    /// A word as it is.
-    Data(u32),
-    /// An instruction.
-    Says(Instr),
-    /// LUI and ADDI that put a value into a register.
-    Loads(u8, u32),
+pub enum Words {
+    One(u32),
+    Two(u32, u32),
 }
 
-fn blank() -> Fields
-    ensures { result ≡ blank }
+/// No value yet, with these order bits.
+fn blank(aq: bool, rl: bool) -> Operands
+    ensures { result ≡ blank aq rl }
 {
-    Fields {
+    Operands {
         rd: 0,
         rs1: 0,
         rs2: 0,
         imm: 0,
         wide: 0,
+        aq,
+        rl,
     }
 }
 
-fn row_of(
-    context: &Context<'_, '_>,
-    row: Option<Instr>,
-    rest: Option<&[u8]>,
-) -> Result<Meaning, Why>
-    ensures { result ≡ row_of (place_of (map (λ line. line.now) context.now.lines.now)) context.now.here row (option_copied rest.entry) }
+/// The word that `.word` gives.
+fn data_words<'t>(context: &Context<'_, 't>, rest: Option<&'t [u8]>) -> Result<Words, Why>
+    ensures { view_by words_of result ≡ data_words (words_in context.now.labels.now) context.now.here (option_copied rest.entry) }
 {
-    match row {
+    let values = operands(context, &[Kind::Word], rest, blank(false, false))?;
+    Ok(Words::One(values.wide))
+}
+
+/// The two words that `li` stands for.
+fn li_words<'t>(context: &Context<'_, 't>, rest: Option<&'t [u8]>) -> Result<Words, Why>
+    ensures { view_by words_of result ≡ li_words (words_in context.now.labels.now) context.now.here (option_copied rest.entry) }
+{
+    let values = operands(context, &[Kind::Rd, Kind::Value], rest, blank(false, false))?;
+    let (upper, lower) = load_words(values.rd, values.wide);
+    Ok(Words::Two(upper, lower))
+}
+
+/// The word of the instruction with this name.
+fn instruction_words<'t>(
+    context: &Context<'_, 't>,
+    name: Option<Name>,
+    rest: Option<&'t [u8]>,
+) -> Result<Words, Why>
+    ensures { view_by words_of result
+        ≡ instruction_words (words_in context.now.labels.now) context.now.here (option_map name_of_code name) (option_copied rest.entry) }
+{
+    match name {
         None => Err(Why::Word),
-        Some(row) => {
-            let fields = operands(context, parts_of(row).operands, rest, blank())?;
-            Ok(Meaning::Says(filled(row, fields)))
+        Some(name) => {
+            let kinds = kinds_of(name.mnemonic.syntax);
+            let values = operands(context, kinds, rest, blank(name.aq, name.rl))?;
+            Ok(Words::One(word_of(name.mnemonic, values)))
         }
     }
 }
 
-fn data_of(context: &Context<'_, '_>, rest: Option<&[u8]>) -> Result<Meaning, Why>
-    ensures { result ≡ data_of (place_of (map (λ line. line.now) context.now.lines.now)) context.now.here (option_copied rest.entry) }
-{
-    let fields = operands(context, &[Kind::Word], rest, blank())?;
-    Ok(Meaning::Data(fields.wide))
-}
-
-fn loads(context: &Context<'_, '_>, rest: Option<&[u8]>) -> Result<Meaning, Why>
-    ensures { result ≡ loads (place_of (map (λ line. line.now) context.now.lines.now)) context.now.here (option_copied rest.entry) }
-{
-    let fields = operands(context, &[Kind::Rd, Kind::Value], rest, blank())?;
-    Ok(Meaning::Loads(fields.rd, fields.wide))
-}
-
-/// What a statement says, or its first fault.
+/// The words of a statement, or its first fault.
 #[tactic(auto, unfolding(crate::specs::Statements::statement))]
-pub fn statement(context: &Context<'_, '_>, text: &[u8]) -> Result<Meaning, Why>
-    ensures { result ≡ statement (place_of (map (λ line. line.now) context.now.lines.now)) context.now.here text.now }
+pub fn statement<'t>(context: &Context<'_, 't>, text: &'t [u8]) -> Result<Words, Why>
+    ensures { view_by words_of result ≡ statement (words_in context.now.labels.now) context.now.here text.now }
 {
     let (name, rest) = cut(text, b' ');
     if name == b".word".as_slice() {
-        data_of(context, rest)
+        data_words(context, rest)
     } else if name == b"li".as_slice() {
-        loads(context, rest)
+        li_words(context, rest)
     } else {
-        row_of(context, named(name), rest)
+        instruction_words(context, read_name(name), rest)
     }
 }

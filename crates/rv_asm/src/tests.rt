@@ -1,3 +1,5 @@
+//! Worked statements, with the words that llvm-mc gives them, and faults.
+
 use super::*;
 use std::process::Abort;
 use std::test::Fail;
@@ -135,7 +137,7 @@ fn assembles<R: Abort + AllocGlobal>(rt: &R, text: &str, words: &[u32]) -> Resul
 }
 
 #[test]
-fn statements(rt: HostRuntime) -> Result<(), Fail> {
+fn each_row_has_its_word(rt: HostRuntime) -> Result<(), Fail> {
     for (text, word) in STATEMENTS {
         assembles(&rt, text, &[word])?;
     }
@@ -143,7 +145,7 @@ fn statements(rt: HostRuntime) -> Result<(), Fail> {
 }
 
 #[test]
-fn labels(rt: HostRuntime) -> Result<(), Fail> {
+fn labels_stand_for_their_places(rt: HostRuntime) -> Result<(), Fail> {
     assembles(
         &rt,
         "addi x1, x0, -1\nj: jal x0, j",
@@ -156,11 +158,12 @@ fn labels(rt: HostRuntime) -> Result<(), Fail> {
             0x00050C63, 0x800005B7, 0x00058593, 0xFF5FF0EF, 0x00000137, 0xFFF10113, 0x00000000,
         ],
     )?;
+    assembles(&rt, "li a0, 0x12345FFF", &[0x12346537, 0xFFF50513])?;
     assembles(&rt, "", &[])
 }
 
 #[test]
-fn texts(rt: HostRuntime) -> Result<(), Fail> {
+fn words_have_their_texts(rt: HostRuntime) -> Result<(), Fail> {
     for (word, text) in TEXTS {
         let mut into = String::new(rt.alloc());
         disassemble(word, &mut into)?;
@@ -171,7 +174,7 @@ fn texts(rt: HostRuntime) -> Result<(), Fail> {
 }
 
 #[test]
-fn faults(rt: HostRuntime) {
+fn the_first_fault_is_named(rt: HostRuntime) {
     for (text, line, why) in FAULTS {
         match assemble(rt.alloc(), text) {
             Ok(_) => assert!(rt; false, "{text}"),

@@ -5,7 +5,7 @@ ghost use Rattle.rv_isa.specs.Fields.{rd, rs1, rs2, imm_i, imm_s, imm_b, imm_u, 
 
 /// The destination register: bits 11 to 7.
 #[inline(always)]
-pub(crate) fn rd_of(word: u32) -> u8
+pub fn rd_of(word: u32) -> u8
     ensures { result ≡ rd word }
 {
     (word >> 7 & 31) as u8
@@ -13,7 +13,7 @@ pub(crate) fn rd_of(word: u32) -> u8
 
 /// The first source register: bits 19 to 15.
 #[inline(always)]
-pub(crate) fn rs1_of(word: u32) -> u8
+pub fn rs1_of(word: u32) -> u8
     ensures { result ≡ rs1 word }
 {
     (word >> 15 & 31) as u8
@@ -21,7 +21,7 @@ pub(crate) fn rs1_of(word: u32) -> u8
 
 /// The second source register, and how far a shift goes: bits 24 to 20.
 #[inline(always)]
-pub(crate) fn rs2_of(word: u32) -> u8
+pub fn rs2_of(word: u32) -> u8
     ensures { result ≡ rs2 word }
 {
     (word >> 20 & 31) as u8
@@ -29,7 +29,7 @@ pub(crate) fn rs2_of(word: u32) -> u8
 
 /// The number of a CSR: bits 31 to 20.
 #[inline(always)]
-pub(crate) fn csr_of(word: u32) -> u32
+pub fn csr_of(word: u32) -> u32
     ensures { result ≡ csr word }
 {
     word >> 20
@@ -37,7 +37,7 @@ pub(crate) fn csr_of(word: u32) -> u32
 
 /// Acquire: bit 26.
 #[inline(always)]
-pub(crate) fn aq_of(word: u32) -> bool
+pub fn aq_of(word: u32) -> bool
     ensures { result ≡ aq word }
 {
     word >> 26 & 1 == 1
@@ -45,7 +45,7 @@ pub(crate) fn aq_of(word: u32) -> bool
 
 /// Release: bit 25.
 #[inline(always)]
-pub(crate) fn rl_of(word: u32) -> bool
+pub fn rl_of(word: u32) -> bool
     ensures { result ≡ rl word }
 {
     word >> 25 & 1 == 1
@@ -53,7 +53,7 @@ pub(crate) fn rl_of(word: u32) -> bool
 
 /// All of a fence but its opcode and funct3: bits 31 to 15 above bits 11 to 7.
 #[inline(always)]
-pub(crate) fn rest_of(word: u32) -> u32
+pub fn rest_of(word: u32) -> u32
     ensures { result ≡ rest word }
 {
     (word >> 15 << 5) + (word >> 7 & 31)
@@ -61,7 +61,7 @@ pub(crate) fn rest_of(word: u32) -> u32
 
 /// The I-immediate.
 #[inline(always)]
-pub(crate) fn imm_i(word: u32) -> i32
+pub fn imm_i(word: u32) -> i32
     ensures { result ≡ imm_i word }
 {
     word.cast_signed() >> 20
@@ -69,7 +69,7 @@ pub(crate) fn imm_i(word: u32) -> i32
 
 /// The S-immediate.
 #[inline(always)]
-pub(crate) fn imm_s(word: u32) -> i32
+pub fn imm_s(word: u32) -> i32
     ensures { result ≡ imm_s word }
 {
     let number = ((word >> 25 << 5) + (word >> 7 & 31)) as i32;
@@ -78,7 +78,7 @@ pub(crate) fn imm_s(word: u32) -> i32
 
 /// The B-immediate.
 #[inline(always)]
-pub(crate) fn imm_b(word: u32) -> i32
+pub fn imm_b(word: u32) -> i32
     ensures { result ≡ imm_b word }
 {
     let high = (word >> 31 << 12) + ((word >> 7 & 1) << 11);
@@ -88,7 +88,7 @@ pub(crate) fn imm_b(word: u32) -> i32
 
 /// The upper 20 bits of the U-immediate.
 #[inline(always)]
-pub(crate) fn imm_u(word: u32) -> u32
+pub fn imm_u(word: u32) -> u32
     ensures { result ≡ imm_u word }
 {
     word >> 12
@@ -96,7 +96,7 @@ pub(crate) fn imm_u(word: u32) -> u32
 
 /// The J-immediate.
 #[inline(always)]
-pub(crate) fn imm_j(word: u32) -> i32
+pub fn imm_j(word: u32) -> i32
     ensures { result ≡ imm_j word }
 {
     let high = (word >> 31 << 20) + ((word >> 12 & 255) << 12);

@@ -3,7 +3,8 @@
 
 mod decoder;
 mod encoder;
-mod fields;
+pub mod fields;
+pub mod formats;
 mod instr;
 #[cfg(test)]
 mod tests;

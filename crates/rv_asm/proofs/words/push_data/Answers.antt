@@ -1,6 +1,0 @@
-use Rattle.std.proofs.Common.{[], ◌∷◌, refl}
-use Rattle.std.proofs.lemmas.Result.{on_ok_weaker}
-use Rattle.rv_asm.proofs.words.push_data.Goals as goal
-
-pub returns : goal.returns
-returns c = on_ok_weaker c.push_word.result (λ e. (c.args.word ∷ [], refl, e)) c.push_word.ensures

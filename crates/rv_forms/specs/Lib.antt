@@ -1,0 +1,4 @@
+pub mod Forms
+pub mod Mnemonics
+pub mod Names
+pub mod Ranges
