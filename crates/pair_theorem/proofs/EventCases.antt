@@ -6,7 +6,12 @@ use Rattle.inet_frame.specs.Counted.{tcp_in}
 use Rattle.settle_rules.specs.Release.{reply}
 use Rattle.state_wire.specs.Guest.{Kind}
 use Rattle.pair_theorem.specs.Checkpoint.{capture, next_capture}
-use Rattle.pair_theorem.specs.ClientFrames.{Entry, frame_entry, answer_entry, drop_entry, entry_of, Waiting, inbox_room, trims_by}
+use Rattle.frame_mirror.specs.declared.ingress.Entry.{Entry}
+use Rattle.frame_mirror.specs.declared.ingress.Entry.TheVariants as entry
+use Rattle.frame_mirror.specs.Accepted.{entry_of}
+use Rattle.frame_mirror.specs.declared.ring.Waiting.{Waiting}
+use Rattle.frame_mirror.specs.declared.ring.TheConstants.{INBOX_ROOM}
+use Rattle.pair_theorem.specs.ClientFrames.{trims_by}
 use Rattle.pair_theorem.specs.Events.{accept_by, ask_event, client_entry, client_event, deliver_down, deliver_up, is_ack, look_at, numbers_of, outcome_of, outcome_with, passed_frame, primary_event, primary_hears, primary_survives, primary_turns, report_event, secondary_event, secondary_hears, secondary_survives, secondary_turns, survivor_turns, take_frame, taking_inbox, waiting_of}
 use Rattle.pair_theorem.specs.GuestTurns.{turn_from}
 use Rattle.replay_log.specs.declared.lines.Line.{Line}
@@ -81,17 +86,17 @@ take_case : (kind : Kind) (P : Claim) → Cases kind P → (past : Past) (w : Wa
     → P past Client (take_frame past w)
 unfolding take_frame
 take_case kind P h past w e =
-    cond_both (nat_le inbox_room (length (taking_inbox past)))
+    cond_both (nat_le INBOX_ROOM (length (taking_inbox past)))
     (silently (passed_frame past) Client (Full past.next) None) (accepted_outcome past w) (P past Client)
     (λ f. h.is_full past) (λ f. h.accepts past w e)
 
 entry_case : (kind : Kind) (P : Claim) → Cases kind P → (past : Past) (entry : Entry)
     → P past Client (client_entry past entry)
 unfolding client_entry
-entry_case kind P h past (frame_entry frame) =
+entry_case kind P h past (entry.Frame frame) =
     take_case kind P h past (waiting_of past (look_at past (tcp_in frame)) frame) refl
-entry_case kind P h past (answer_entry b) = h.answers past b
-entry_case kind P h past (drop_entry why) = h.drops past why
+entry_case kind P h past (entry.Answer b) = h.answers past b
+entry_case kind P h past (entry.Drop w) = h.drops past w.number
 
 client_case : (kind : Kind) (P : Claim) → Cases kind P → (past : Past) (frame : Option (List ℕ))
     → P past Client (client_event past frame)

@@ -4,7 +4,8 @@ use Rattle.colo_base.specs.declared.fault.Cause.{Cause}
 use Rattle.settle_rules.specs.Release.{reply}
 use Rattle.state_wire.specs.Guest.{Kind}
 use Rattle.pair_theorem.specs.Checkpoint.{capture}
-use Rattle.pair_theorem.specs.ClientFrames.{Waiting, trims_by}
+use Rattle.frame_mirror.specs.declared.ring.Waiting.{Waiting}
+use Rattle.pair_theorem.specs.ClientFrames.{trims_by}
 use Rattle.pair_theorem.specs.Events.{hear_end, hear_frame, hear_number, is_ack, is_full, numbers_of, passed_frame, Ended, accept_by, ack_ended, ended_by, known_ended, mark_cause, outcome_of, outcome_with, primary_ended, primary_hears, primary_survives, primary_turns, secondary_hears, secondary_survives, secondary_turns, sent_ended, settle_event, survivor_ended, survivor_turns}
 use Rattle.pair_theorem.specs.GuestTurns.{TurnMade, turn_from}
 use Rattle.replay_log.specs.declared.lines.Line.{Line}

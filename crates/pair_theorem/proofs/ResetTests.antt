@@ -12,7 +12,8 @@ use Rattle.tcp_track.specs.Segments.{is_refusal, refused_in, same_tuple}
 use Rattle.tcp_track.specs.Stands.{opening_after, opening_of, ResetStands, RefusalStands, is_of_client}
 use Rattle.tcp_track.specs.declared.openings.Opening.{Opening}
 use Rattle.pair_theorem.specs.FrameParts.{IsStandingRefusal}
-use Rattle.pair_theorem.proofs.StandsTests.{opening_more, same_tuples}
+use Rattle.tcp_track.proofs.SymbolLemmas.{opening_more}
+use Rattle.tcp_track.proofs.TupleLemmas.{same_tuple-eq}
 
 -- an element that passes a test, with what stands before it and after it
 pub record Found {X : Type 0} (p : X → Bool) (xs : List X) : Type 0 where
@@ -55,7 +56,7 @@ refusal_stands sent t client e =
       carrier = f.element;
       later = f.later;
       place = f.place;
-      on = same_tuples (tuple_of f.element) t outer.0;
+      on = same_tuple-eq (tuple_of f.element) t outer.0;
       refuses = inner.0;
       names = eqb-true (refused_in f.element) client inner.1;
     }
@@ -104,7 +105,7 @@ reset_here t client before s later e =
       later = later;
       own = own.0;
       place = refl;
-      on = same_tuples (tuple_of s) t a.0;
+      on = same_tuple-eq (tuple_of s) t a.0;
       opened = own.1;
       resets = b.0;
       no_refusal = not-true (is_refusal s) c.0;

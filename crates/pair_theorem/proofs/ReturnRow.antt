@@ -5,7 +5,7 @@ use Rattle.inet_build.specs.Segment.{segment_bytes, ipv4_header, tcp_header}
 use Rattle.inet_build.specs.declared.fields.Segment.{Segment}
 use Rattle.state_wire.specs.Guest.{Kind}
 use Rattle.state_wire.specs.Script.{script_kind}
-use Rattle.pair_theorem.specs.ClientFrames.{Waiting}
+use Rattle.frame_mirror.specs.declared.ring.Waiting.{Waiting}
 use Rattle.pair_theorem.specs.FrameParts.{Syn, syns}
 use Rattle.pair_theorem.specs.History.{entries, lines_of, pair_log}
 use Rattle.replay_log.specs.declared.lines.Line.{Line}

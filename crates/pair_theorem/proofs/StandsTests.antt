@@ -2,13 +2,14 @@
 use Rattle.std.proofs.Common.{◌≡◌, ◌⊎◌, inl, inr, ℕ, ◌+◌, ◌-◌, ◌&&◌, ◌==◌, nat_lt, if◌then◌else◌, Bool, true, false, List, [], ◌∷◌, ◌++◌, append_assoc, Option, None, Some, slice_get, refl, sym, ap, subst, ◌∙◌, fold, eq-eqb, eqb-true, ltb-false, arith}
 use Rattle.std.specs.List.{list_all, enumerate_from}
 use Rattle.std.proofs.lemmas.Bool.{or_left, or_right, or_cases, and_from, and_parts}
-use Rattle.std.proofs.lemmas.Grind.{fold-append}
 use Rattle.inet_frame.specs.Counted.{tuple_of}
 use Rattle.inet_frame.specs.Fields.{TcpFields}
 use Rattle.inet_frame.specs.declared.tuple.Tuple.{Tuple}
 use Rattle.tcp_track.specs.Segments.{Symbol, syn, byte, fin, same_tuple, same_symbol, symbol_in, symbols_in, start_of}
 use Rattle.tcp_track.specs.Stands.{opening_after, opening_of, Stands, stands, stands_from, carries_here, is_symbol}
 use Rattle.tcp_track.specs.declared.openings.Opening.{Opening}
+use Rattle.tcp_track.proofs.SymbolLemmas.{opening_more}
+use Rattle.tcp_track.proofs.TupleLemmas.{same_tuple-refl, same_tuple-eq}
 use Rattle.pair_theorem.proofs.AllLemmas.{All_at, All_from, slice_get-enumerate_from}
 use Rattle.std.specs.Prelude.{All}
 
@@ -16,11 +17,6 @@ symbol_itself : (x : Symbol) → same_symbol x x ≡ true
 symbol_itself syn = refl
 symbol_itself (byte b) = eq-eqb b b refl
 symbol_itself fin = refl
-
-pub tuple_itself : (t : Tuple) → same_tuple t t ≡ true
-tuple_itself t =
-    and_from (t.addr == t.addr) (t.port == t.port && t.guest == t.guest) (eq-eqb t.addr t.addr refl)
-    (and_from (t.port == t.port) (t.guest == t.guest) (eq-eqb t.port t.port refl) (eq-eqb t.guest t.guest refl))
 
 same_symbols : (x y : Symbol) → same_symbol x y ≡ true → x ≡ y
 same_symbols syn syn e = refl
@@ -33,21 +29,12 @@ same_symbols fin syn e = absurd (cc e)
 same_symbols fin (byte b) e = absurd (cc e)
 same_symbols fin fin e = refl
 
-pub same_tuples : (t u : Tuple) → same_tuple t u ≡ true → t ≡ u
-same_tuples t u e =
-    let outer = and_parts (t.addr == u.addr) (t.port == u.port && t.guest == u.guest) e in
-    let inner = and_parts (t.port == u.port) (t.guest == u.guest) outer.1 in
-    let addr = eqb-true t.addr u.addr outer.0 in
-    let port = eqb-true t.port u.port inner.0 in
-    let guest = eqb-true t.guest u.guest inner.1 in
-    λ i. record { addr = addr i; port = port i; guest = guest i }
-
 here_true : (t : Tuple) (client own offset : ℕ) (x : Symbol) (s : TcpFields) → tuple_of s ≡ t
     → symbol_in own s offset ≡ Some x
     → carries_here t client offset x (Some (record { client = client; own = own })) s ≡ true
 here_true t client own offset x s on carries =
     and_from (same_tuple (tuple_of s) t) (client == client && is_symbol (symbol_in own s offset) x)
-    (subst (λ (u : Tuple). same_tuple u t ≡ true) (sym on) (tuple_itself t))
+    (subst (λ (u : Tuple). same_tuple u t ≡ true) (sym on) (same_tuple-refl t))
     (and_from (client == client) (is_symbol (symbol_in own s offset) x) (eq-eqb client client refl)
     (subst (λ (y : Option Symbol). is_symbol y x ≡ true) (sym carries) (symbol_itself x)))
 
@@ -93,15 +80,10 @@ here_stands t client offset x before s later (Some o) opened e =
       later = later;
       own = o.own;
       place = refl;
-      on = same_tuples (tuple_of s) t outer.0;
+      on = same_tuple-eq (tuple_of s) t outer.0;
       opened = opened ∙ (λ i. Some (record { client = client_is i; own = o.own }));
       carries = is_symbol_there (symbol_in o.own s offset) x inner.1;
     }
-
-pub opening_more : (t : Tuple) (before : List TcpFields) (s : TcpFields)
-    → opening_of t (before ++ s ∷ []) ≡ opening_after t (opening_of t before) s
-unfolding opening_of
-opening_more t before s = fold-append (opening_after t) None before (s ∷ [])
 
 stands_after : (t : Tuple) (client offset : ℕ) (x : Symbol) (before sent : List TcpFields)
     → stands_from t client offset x (opening_of t before) sent ≡ true → Stands (before ++ sent) t client offset x

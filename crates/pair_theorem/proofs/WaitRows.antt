@@ -2,7 +2,7 @@
 use Rattle.std.specs.Prelude.{◌≡◌, List, [], ◌∷◌, ◌++◌, true, false, replicate, None, Some, refl}
 use Rattle.colo_base.specs.declared.fault.Cause.TheVariants.{Wait}
 use Rattle.pair_theorem.specs.Events.{outcome_of}
-use Rattle.pair_theorem.specs.ClientFrames.{Waiting}
+use Rattle.frame_mirror.specs.declared.ring.Waiting.{Waiting}
 use Rattle.pair_theorem.specs.History.{pair_log}
 use Rattle.replay_log.specs.declared.lines.Line.TheVariants.{Primary, Secondary, Client, ToSecondary, ToPrimary}
 use Rattle.replay_log.specs.declared.records.Answer.TheVariants.{Accepted, Full, Made, Heard, HeardBack}

@@ -5,6 +5,10 @@ use Rattle.colo_base.specs.declared.fault.Cause.TheVariants.{Asked}
 use Rattle.inet_frame.specs.Counted.{tcp_in, counted, client_tuple_of, tuple_of}
 use Rattle.inet_frame.specs.Fields.{TcpFields}
 use Rattle.inet_frame.specs.Frame.{seen_of}
+use Rattle.inet_frame.specs.Options.{options_of}
+use Rattle.inet_build.specs.Edit.{clean_syn, update_checksum}
+use Rattle.inet_build.specs.Options.{clean_options}
+use Rattle.shared_definitions.specs.Overwrite.{overwrite}
 use Rattle.inet_frame.specs.declared.tuple.Tuple.{Tuple}
 use Rattle.tcp_track.specs.Lines.{Item, sent, commit, line, order}
 use Rattle.tcp_track.specs.Restarts.{is_restart}
@@ -18,7 +22,12 @@ use Rattle.settle_rules.specs.Settle.{Scene, settle}
 use Rattle.settle_rules.specs.Survive.{survive}
 use Rattle.pair_theorem.specs.Agreed.{agreed_in, survivor_agreed}
 use Rattle.pair_theorem.specs.Checkpoint.{capture, next_capture}
-use Rattle.pair_theorem.specs.ClientFrames.{Entry, frame_entry, answer_entry, drop_entry, entry_of, Look, look_with, Waiting, inbox_room, trims_by}
+use Rattle.frame_mirror.specs.declared.ingress.Entry.{Entry}
+use Rattle.frame_mirror.specs.declared.ingress.Entry.TheVariants as entry
+use Rattle.frame_mirror.specs.Accepted.{entry_of}
+use Rattle.frame_mirror.specs.declared.ring.Waiting.{Waiting}
+use Rattle.frame_mirror.specs.declared.ring.TheConstants.{INBOX_ROOM}
+use Rattle.pair_theorem.specs.ClientFrames.{Look, look_with, trims_by}
 use Rattle.state_wire.specs.Guest.{Kind}
 use Rattle.pair_theorem.specs.GuestTurns.{TurnNumbers, TurnMade, turn_from}
 use Rattle.replay_log.specs.declared.lines.Line.{Line}
@@ -201,22 +210,22 @@ waiting_of past look frame =
 unfoldable pub take_frame : Past → Waiting → Outcome
 unfolding accept_by trims_by
 take_frame past w =
-    if nat_le inbox_room (length (taking_inbox past))
+    if nat_le INBOX_ROOM (length (taking_inbox past))
     then silently (passed_frame past) Client (Full past.next) None
     else silently (accept_by (is_primary_stop past.stop) past w (trims_by w)) Client
     (Accepted past.next w.seen w.trim 0) None
 
 unfoldable pub client_entry : Past → Entry → Outcome
 unfolding take_frame look_at seen_of
-client_entry past (frame_entry frame) =
+client_entry past (entry.Frame frame) =
     take_frame past (waiting_of past (look_at past (tcp_in frame)) frame)
-client_entry past (answer_entry bytes) =
+client_entry past (entry.Answer bytes) =
     quietly (passed_frame past) (step_with Client (Arp past.next) [] None (reply bytes ∷ []))
-client_entry past (drop_entry why) =
-    silently (passed_frame past) Client (Dropped past.next why) None
+client_entry past (entry.Drop w) =
+    silently (passed_frame past) Client (Dropped past.next w.number) None
 
 unfoldable pub client_event : Past → Option (List ℕ) → Outcome
-unfolding client_entry entry_of
+unfolding client_entry entry_of clean_syn clean_options options_of update_checksum overwrite seen_of
 client_event past None = silently past Client Nothing None
 client_event past (Some frame) =
     if is_primary_stop past.stop && not past.is_reported
@@ -229,7 +238,7 @@ number_after None n = n
 number_after (Some k) n = record n { number = k.number }
 
 abbrev pub is_full : List Waiting → Bool
-is_full inbox = nat_le inbox_room (length inbox)
+is_full inbox = nat_le INBOX_ROOM (length inbox)
 
 -- a frame that a full inbox cannot take is dropped after its trim
 unfoldable pub hear_frame : Past → Waiting → Past

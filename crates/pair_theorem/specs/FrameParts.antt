@@ -17,7 +17,8 @@ use Rattle.settle_rules.specs.Matching.{BothLines, agreed_ack, has_one_client}
 use Rattle.settle_rules.specs.Progress.{Progress, ProgressTable, progress_of}
 use Rattle.settle_rules.specs.Release.{Released, tcp, reply}
 use Rattle.settle_rules.specs.Settle.{both_lines}
-use Rattle.pair_theorem.specs.ClientFrames.{Entry, frame_entry, answer_entry, drop_entry}
+use Rattle.frame_mirror.specs.declared.ingress.Entry.{Entry}
+use Rattle.frame_mirror.specs.declared.ingress.Entry.TheVariants as entry
 use Rattle.pair_theorem.specs.History.{entries}
 use Rattle.replay_log.specs.declared.lines.Line.{Line}
 use Rattle.replay_log.specs.declared.lines.Line.TheVariants.{Client}
@@ -29,9 +30,9 @@ use Rattle.pair_theorem.specs.TheRun.{stream_entry, run_segments}
 
 -- SHAPE
 abbrev pub reply_in : Entry → Option (List ℕ)
-reply_in (frame_entry b) = None
-reply_in (answer_entry b) = Some b
-reply_in (drop_entry n) = None
+reply_in (entry.Frame b) = None
+reply_in (entry.Answer b) = Some b
+reply_in (entry.Drop w) = None
 
 abbrev pub reply_with : Start → Line → Answer → Option (List ℕ)
 reply_with a Client (Arp i) = reply_in (stream_entry a i)

@@ -3,7 +3,14 @@ use Rattle.std.specs.Prelude.{ℕ, Bool, true, false, ◌&&◌, List, [], ◌∷
 use Rattle.inet_frame.specs.Frame.{seen_of}
 use Rattle.tcp_track.specs.Lines.{sent, sent_of}
 use Rattle.tcp_track.specs.Stands.{segments}
-use Rattle.pair_theorem.specs.ClientFrames.{Waiting, given_frame}
+use Rattle.frame_mirror.specs.declared.ring.Waiting.{Waiting}
+use Rattle.inet_frame.specs.Counted.{tcp_in}
+use Rattle.inet_frame.specs.Fields.{TcpFields}
+use Rattle.inet_build.specs.Edit.{shift_ack, update_checksum}
+use Rattle.shared_definitions.specs.Overwrite.{overwrite}
+use Rattle.seq_rewriter.specs.Given.{opening_for, raise_frame}
+use Rattle.tcp_track.specs.Segments.{may_open}
+use Rattle.tcp_track.specs.Stands.{opening_of}
 use Rattle.state_wire.specs.Guest.{GuestTurn, Kind}
 use Rattle.state_wire.specs.Run.{run_turn}
 use Rattle.pair_theorem.specs.Past.{NodeRun}
@@ -39,6 +46,11 @@ pub record TurnMade : Type 0 where
   pub index : Option ℕ
   pub output : List (List ℕ)
 
+-- a frame of an inbox, which is clean, as a guest gets it that has sent these segments
+unfoldable pub raise_waiting : Waiting → List TcpFields → List ℕ
+unfolding raise_frame shift_ack update_checksum overwrite seen_of opening_of may_open
+raise_waiting w said = raise_frame w.frame w.seen (opening_for (tcp_in w.frame) said)
+
 unfoldable pub turn_without : Kind → NodeRun → List Waiting → TurnNumbers → TurnMade
 unfolding add_turn
 turn_without kind node inbox n = record {
@@ -49,9 +61,9 @@ turn_without kind node inbox n = record {
 }
 
 unfoldable pub turn_with : Kind → NodeRun → Waiting → List Waiting → TurnNumbers → TurnMade
-unfolding add_turn given_frame
+unfolding add_turn raise_waiting
 turn_with kind node w inbox n =
-    let turn = guest_turn n (Some (given_frame w.frame w.seen (sent_of node.items))) in record {
+    let turn = guest_turn n (Some (raise_waiting w (sent_of node.items))) in record {
       run = add_turn kind node turn (taken_turn n (Some w.index));
       inbox = inbox;
       index = Some w.index;

@@ -7,7 +7,7 @@ use Rattle.std.specs.Option.{option_map_or}
 use Rattle.colo_base.specs.declared.fault.Cause.{Cause}
 use Rattle.settle_rules.specs.Pieces.{pieces_of}
 use Rattle.settle_rules.specs.Release.{Released, released_frame}
-use Rattle.pair_theorem.specs.ClientFrames.{Waiting}
+use Rattle.frame_mirror.specs.declared.ring.Waiting.{Waiting}
 use Rattle.state_wire.specs.Guest.{GuestState}
 use Rattle.pair_theorem.specs.History.{entries, lines_of, past_at}
 use Rattle.replay_log.specs.Texts.{record_text}

@@ -5,7 +5,7 @@ use Rattle.std.specs.Int.{w16, w32, w64, to_be_bytes}
 use Rattle.std.specs.Option.{option_map_or}
 use Rattle.inet_frame.specs.declared.tuple.Tuple.{Tuple}
 use Rattle.tcp_track.specs.declared.openings.Opening.{Opening}
-use Rattle.pair_theorem.specs.ClientFrames.{Waiting}
+use Rattle.frame_mirror.specs.declared.ring.Waiting.{Waiting}
 
 -- a number of a client's connection
 pub record NumberOf : Type 0 where

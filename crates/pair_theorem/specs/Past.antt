@@ -15,7 +15,7 @@ use Rattle.replay_log.specs.declared.records.Answer.{Answer}
 use Rattle.replay_log.specs.declared.records.Mark.{Mark}
 use Rattle.replay_log.specs.declared.records.Record.{Record}
 use Rattle.pair_theorem.specs.SingleRun.{Taken}
-use Rattle.pair_theorem.specs.ClientFrames.{Waiting}
+use Rattle.frame_mirror.specs.declared.ring.Waiting.{Waiting}
 use Rattle.pair_theorem.specs.Messages.{Message}
 
 -- A node's run of its guest, with the turns as a log names them, and its items: the segments that

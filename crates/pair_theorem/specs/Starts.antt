@@ -6,7 +6,7 @@ use Rattle.settle_rules.specs.Numbers.{learn_all, thin}
 use Rattle.settle_rules.specs.Progress.{clear_ages}
 use Rattle.inet_frame.specs.Bytes.{AreBytes}
 use Rattle.state_wire.specs.Guest.{GuestState, GuestTurn, Kind}
-use Rattle.pair_theorem.specs.ClientFrames.{Waiting}
+use Rattle.frame_mirror.specs.declared.ring.Waiting.{Waiting}
 use Rattle.pair_theorem.specs.History.{pair_log, past_at}
 use Rattle.replay_log.specs.declared.lines.Line.{Line}
 use Rattle.pair_theorem.specs.Log.{HasOneStop}

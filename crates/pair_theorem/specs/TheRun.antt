@@ -4,40 +4,47 @@ use Rattle.std.specs.Prelude.{ℕ, Bool, true, false, List, [], fold, slice_get,
 use Rattle.std.specs.Option.{option_map}
 use Rattle.inet_frame.specs.Fields.{TcpFields}
 use Rattle.inet_frame.specs.Frame.{seen_of}
+use Rattle.inet_frame.specs.Options.{options_of}
+use Rattle.inet_build.specs.Edit.{clean_syn, shift_ack, update_checksum}
+use Rattle.inet_build.specs.Options.{clean_options}
+use Rattle.shared_definitions.specs.Overwrite.{overwrite}
 use Rattle.tcp_track.specs.Lines.{sent_of}
-use Rattle.tcp_track.specs.Stands.{segments}
-use Rattle.pair_theorem.specs.ClientFrames.{Entry, frame_entry, answer_entry, drop_entry, entry_of, given_frame}
+use Rattle.tcp_track.specs.Stands.{opening_of, segments}
+use Rattle.frame_mirror.specs.declared.ingress.Entry.{Entry}
+use Rattle.frame_mirror.specs.declared.ingress.Entry.TheVariants as entry
+use Rattle.frame_mirror.specs.Accepted.{entry_of}
+use Rattle.seq_rewriter.specs.Given.{given_frame, raise_frame}
+use Rattle.tcp_track.specs.Segments.{may_open}
 use Rattle.pair_theorem.specs.GuestTurns.{TurnNumbers, guest_turn, add_turn}
 use Rattle.replay_log.specs.declared.records.Record.{Record}
 use Rattle.pair_theorem.specs.Past.{NodeRun, Start, first_run}
 use Rattle.pair_theorem.specs.SingleRun.{Taken, seen_at, taken_turns}
 
-abbrev pub is_frame_entry : Entry → Bool
-is_frame_entry (frame_entry b) = true
-is_frame_entry (answer_entry b) = false
-is_frame_entry (drop_entry n) = false
+abbrev pub is_frame : Entry → Bool
+is_frame (entry.Frame b) = true
+is_frame (entry.Answer b) = false
+is_frame (entry.Drop w) = false
 
-abbrev pub cleaned_frame : Entry → List ℕ
-cleaned_frame (frame_entry b) = b
-cleaned_frame (answer_entry b) = []
-cleaned_frame (drop_entry n) = []
+-- a frame of the client stream; none that is accepted, where it is not there
+abbrev pub stream_frame : Start → ℕ → List ℕ
+stream_frame a i = unwrap_or (slice_get a.stream i) []
 
--- what a client frame of the stream is to the pair; a frame that is not there is none that is
--- accepted
+-- what it is to the pair
 unfoldable pub stream_entry : Start → ℕ → Entry
-unfolding entry_of
-stream_entry a i = entry_of (unwrap_or (slice_get a.stream i) [])
+unfolding entry_of clean_syn clean_options options_of update_checksum overwrite seen_of
+stream_entry a i = entry_of (stream_frame a i)
 
 unfoldable pub is_accepted : Start → ℕ → Bool
 unfolding stream_entry
-is_accepted a i = is_frame_entry (stream_entry a i)
+is_accepted a i = is_frame (stream_entry a i)
 
 -- a frame of the stream as the run is given it: cleaned, and its acknowledgement raised by what its
 -- client event saw
 unfoldable pub run_frame : Start → List Record → NodeRun → ℕ → List ℕ
-unfolding stream_entry seen_at given_frame
+unfolding seen_at given_frame clean_syn clean_options options_of raise_frame shift_ack
+    update_checksum overwrite seen_of opening_of may_open
 run_frame a log node i =
-    given_frame (cleaned_frame (stream_entry a i)) (seen_at i log) (sent_of node.items)
+    given_frame (stream_frame a i) (seen_at i log) (sent_of node.items)
 
 abbrev pub turn_numbers : Taken → TurnNumbers
 turn_numbers t = record { clock = t.clock; blocks = t.blocks; steps = t.steps }
