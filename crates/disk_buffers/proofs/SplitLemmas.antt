@@ -41,7 +41,8 @@ split_all bytes sectors rest split whole short =
     let empty : length rest ≡ 0 = omega (arith, split.count) in
     let none = nil_from_length rest empty in (
       record {
-        join = sym (append-nil (flat_map (λ x. x) sectors)) ∙ (ap (λ end. flat_map (λ x. x) sectors ++ end) (sym none) ∙ split.join);
+        join = sym (append-nil (flat_map (λ x. x) sectors))
+            ∙ (ap (λ end. flat_map (λ x. x) sectors ++ end) (sym none) ∙ split.join);
         sizes = split.sizes;
       },
       omega (arith, split.count, empty),

@@ -1,6 +1,7 @@
 //! Disks in memory.
 //!
-//! [`WholeDisk`] keeps every sector in one list. It is made of a disk's bytes, and takes memory then alone.
+//! [`WholeDisk`] keeps every sector in one list. It is made of a disk's bytes, and takes memory
+//! then alone.
 #![tactic(auto)]
 
 mod whole;

@@ -79,11 +79,12 @@ fn read_sectors(alloc: Global, bytes: &[u8]) -> Result<Vec<[u8; 512]>, AllocFail
 }
 
 impl WholeDisk {
-    /// A disk of these bytes, from sector 0 on. `Length` comes exactly where the length is 0, no multiple of 512, or above
-    /// 16,777,216.
+    /// A disk of these bytes, from sector 0 on. `Length` comes exactly where the length is 0, no
+    /// multiple of 512, or above 16,777,216.
     pub fn new(alloc: Global, bytes: &[u8]) -> Result<WholeDisk, DiskFault>
         ensures sectors { IfOk result (λ disk. AreSectors bytes.now disk.mine) }
-        ensures length { IsErrOf result DiskFault.Length ↔ IsTrue (not (is_length (length bytes.now))) }
+        ensures length { IsErrOf result DiskFault.Length
+            ↔ IsTrue (not (is_length (length bytes.now))) }
     {
         if !is_length(bytes.len()) {
             return Err(DiskFault::Length);

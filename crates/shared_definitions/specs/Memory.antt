@@ -1,5 +1,5 @@
--- Memory by addresses: it begins at 0x80000000, and a number of several bytes is little-endian (RISC-V unprivileged, 1.4
--- "Memory").
+-- Memory by addresses: it begins at 0x80000000, and a number of several bytes is little-endian
+-- (RISC-V unprivileged, 1.4 "Memory").
 use Rattle.std.specs.Prelude.{ℕ, ◌+◌, ◌-◌, ◌*◌, ◌==◌, ◌&&◌, ◌||◌, nat_le, Bool, List, [], ◌∷◌}
 use Rattle.std.specs.Int.{bytes_low_first}
 
@@ -11,9 +11,11 @@ ram_base = 0x80000000
 abbrev pub place_of : ℕ → ℕ
 place_of address = address - ram_base
 
--- whether the n bytes from an address on are all in memory of this size; a part of no byte may have any address
+-- whether the n bytes from an address on are all in memory of this size; a part of no byte may have
+-- any address
 abbrev pub is_inside : ℕ → ℕ → ℕ → Bool
-is_inside size address n = (n == 0) || (nat_le ram_base address && nat_le (address + n) (ram_base + size))
+is_inside size address n =
+    (n == 0) || (nat_le ram_base address && nat_le (address + n) (ram_base + size))
 
 -- the number that little-endian bytes spell
 abbrev pub little_endian : List ℕ → ℕ

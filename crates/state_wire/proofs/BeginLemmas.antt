@@ -8,7 +8,8 @@ pub begins_with : (new old more : List (List ℕ)) → new ≡ old ++ more → B
 begins_with new old more e = ap (λ list. take (length old) list) e ∙ take-append_seam old more
 
 -- one element more of a list
-pub take_one : (xs : List (List ℕ)) (k : ℕ) (x : List ℕ) → slice_get xs k ≡ Some x → take (k + 1) xs ≡ take k xs ++ x ∷ []
+pub take_one : (xs : List (List ℕ)) (k : ℕ) (x : List ℕ) → slice_get xs k ≡ Some x →
+    take (k + 1) xs ≡ take k xs ++ x ∷ []
 take_one [] k x e = absurd (none e)
   where
     none : None ≡ Some x → ⊥

@@ -19,7 +19,8 @@ set_rest front (x ∷ xs) [] n at same = absurd (omega (arith, same))
 set_rest front (x ∷ xs) (y ∷ ys) n at same =
     let next : length (front ++ y ∷ []) ≡ n + 1 = omega (arith, length-append front (y ∷ []), at) in
     let rest : length xs ≡ length ys = omega (arith, same) in
-    ap (λ list. set_items list (enumerate_from (n + 1) ys)) (set_at front x xs y n at ∙ sym (append_assoc front (y ∷ []) xs))
+    ap (λ list. set_items list (enumerate_from (n + 1) ys))
+    (set_at front x xs y n at ∙ sym (append_assoc front (y ∷ []) xs))
     ∙ (set_rest (front ++ y ∷ []) xs ys (n + 1) next rest ∙ append_assoc front (y ∷ []) ys)
 
 pages_by_items : (g : Meaning) (pages : List (List ℕ)) (items : List (ℕ × List ℕ)) →
@@ -29,7 +30,8 @@ pages_by_items g pages [] = refl
 pages_by_items g pages (item ∷ items) = pages_by_items g (slice_set pages item.0 item.1) items
 
 sectors_by_items : (g : Meaning) (sectors : List (List ℕ)) (items : List (ℕ × List ℕ)) →
-    fold (λ guest item. with_sector guest item.0 item.1) (record g { state = record g.state { sectors = sectors } }) items
+    fold (λ guest item. with_sector guest item.0 item.1)
+    (record g { state = record g.state { sectors = sectors } }) items
     ≡ record g { state = record g.state { sectors = set_items sectors items } }
 sectors_by_items g sectors [] = refl
 sectors_by_items g sectors (item ∷ items) = sectors_by_items g (slice_set sectors item.0 item.1) items
@@ -41,6 +43,8 @@ loads_whole_lem g s pages sectors =
     let paged = record with { state = record with.state { pages = s.pages } } in
     ap (λ guest. load_sectors guest s.sectors)
     (pages_by_items with g.state.pages (enumerate_from 0 s.pages)
-    ∙ ap (λ list. record with { state = record with.state { pages = list } }) (set_rest [] g.state.pages s.pages 0 refl pages))
+    ∙ ap (λ list. record with { state = record with.state { pages = list } })
+    (set_rest [] g.state.pages s.pages 0 refl pages))
     ∙ (sectors_by_items paged g.state.sectors (enumerate_from 0 s.sectors)
-    ∙ ap (λ list. record paged { state = record paged.state { sectors = list } }) (set_rest [] g.state.sectors s.sectors 0 refl sectors))
+    ∙ ap (λ list. record paged { state = record paged.state { sectors = list } })
+    (set_rest [] g.state.sectors s.sectors 0 refl sectors))

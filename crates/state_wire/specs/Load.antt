@@ -5,10 +5,12 @@ use Rattle.state_wire.specs.Guest.{GuestState, Meaning, with_bytes, with_page, w
 
 -- all pages, in order from the first on, and likewise all sectors
 unfoldable pub load_pages : Meaning → List (List ℕ) → Meaning
-load_pages g pages = fold (λ guest item. with_page guest item.0 item.1) g (enumerate_from 0 pages)
+load_pages g pages =
+    fold (λ guest item. with_page guest item.0 item.1) g (enumerate_from 0 pages)
 
 unfoldable pub load_sectors : Meaning → List (List ℕ) → Meaning
-load_sectors g sectors = fold (λ guest item. with_sector guest item.0 item.1) g (enumerate_from 0 sectors)
+load_sectors g sectors =
+    fold (λ guest item. with_sector guest item.0 item.1) g (enumerate_from 0 sectors)
 
 -- the bytes, the pages and the sectors of a state
 unfoldable pub load_whole : Meaning → GuestState → Meaning

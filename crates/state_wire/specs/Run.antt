@@ -1,5 +1,5 @@
--- A run of one guest: a left fold over its state and the frames that it has sent. So a state with the frames sent by then is
--- itself a run, and a run can start from any other.
+-- A run of one guest: a left fold over its state and the frames that it has sent. So a state with
+-- the frames sent by then is itself a run, and a run can start from any other.
 use Rattle.std.specs.Prelude.{ℕ, List, ◌++◌, fold}
 use Rattle.state_wire.specs.Guest.{GuestState, GuestTurn, Kind}
 

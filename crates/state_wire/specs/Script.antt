@@ -1,4 +1,5 @@
--- The test guest: what it sends is a table, and its state shows every turn that it made and the last frame that it received.
+-- The test guest: what it sends is a table, and its state shows every turn that it made and the
+-- last frame that it received.
 use Rattle.std.specs.Prelude.{ℕ, ◌+◌, ◌*◌, ◌%◌, ◌^◌, Bool, true, ◌&&◌, nat_le, List, [], ◌++◌, length, take, drop, slice_get, unwrap_or}
 use Rattle.std.specs.Int.{w64, from_be_bytes, to_be_bytes}
 use Rattle.state_wire.specs.Guest.{GuestState, GuestTurn, Kind, Meaning}
@@ -20,7 +21,8 @@ script_bytes number frame = to_be_bytes w64 number ++ frame
 
 abbrev pub script_next : GuestState → GuestTurn → GuestState
 script_next s turn = record s {
-  bytes = script_bytes (next_number (from_be_bytes w64 (take 8 s.bytes)) turn.ticks) (unwrap_or turn.frame (drop 8 s.bytes));
+  bytes = script_bytes (next_number (from_be_bytes w64 (take 8 s.bytes)) turn.ticks)
+      (unwrap_or turn.frame (drop 8 s.bytes));
 }
 
 -- a turn whose clock goes on by d sends the frames at place d of the table, and none past its end

@@ -12,10 +12,13 @@ use colo_base::{Frames, NoMemory};
 use std::alloc::Global;
 use std::marker::Model;
 
-/// A guest whose turn with clock `d` sends the frames at place `d` of a table, and none past its end.
+/// A guest whose turn with clock `d` sends the frames at place `d` of a table, and none past its
+/// end.
 ///
-/// Its state is a number of 64 bits, at first 0, and the last frame that it received, at first empty. A turn makes the number
-/// `31 * number + d + 1` modulo 2^64. The state's bytes are the number's eight, big-endian, and the frame. It has no
+/// Its state is a number of 64 bits, at first 0, and the last frame that it received, at first
+/// empty. A turn makes the number
+/// `31 * number + d + 1` modulo 2^64. The state's bytes are the number's eight, big-endian, and the
+/// frame. It has no
 /// pages and no sectors, and can always receive.
 #[derive(Drop)]
 pub struct ScriptGuest {
@@ -33,7 +36,12 @@ impl Model for ScriptGuest {
 
     ghost Value = { ScriptParts };
 
-    ghost view = { λ g. record { table = g.table.items; number = g.number; frame = g.frame.items; turned = g.turned } };
+    ghost view = { λ g. record {
+      table = g.table.items;
+      number = g.number;
+      frame = g.frame.items;
+      turned = g.turned;
+    } };
 
     ghost invariant = { λ g. length g.frame.items ≤ 1514 };
 }
@@ -61,7 +69,7 @@ fn number_in(bytes: &[u8; 8]) -> u64
 }
 
 /// Appends every frame of a list. After `NoMemory` `out` begins with what it held.
-#[tactic(auto, using(crate::proofs::BeginLemmas::begins_with, crate::proofs::BeginLemmas::take_one))]
+#[tactic(auto, using(crate::proofs::BeginLemmas::begins_with))]
 fn append_all(frames: &Frames, out: &mut Frames) -> Result<(), NoMemory>
     ensures ok { OnOk result (out.new ≡ out.old ++ frames.now) }
     ensures front { BeginsWith out.new out.old }
@@ -89,7 +97,8 @@ fn send_from(table: &[Frames], ticks: u64, out: &mut Frames) -> Result<(), NoMem
 
 /// Keeps a copy of a frame, if there is one.
 fn receive(held: &mut Vec<u8>, frame: Option<&[u8]>) -> Result<(), NoMemory>
-    ensures ok { OnOk result (held.new.items ≡ unwrap_or (option_copied frame.entry) held.old.items) }
+    ensures ok { OnOk result (held.new.items
+        ≡ unwrap_or (option_copied frame.entry) held.old.items) }
     ensures err { OnErr result (held.new.items ≡ held.old.items) }
 {
     let Some(bytes) = frame else {

@@ -6,4 +6,5 @@ pub loop-sector-preserved : goal.loop-sector-preserved
 loop-sector-preserved c =
     let cut = c.in-Some.ensures.cases in
     rw c.in_ok-push.ensures.items
-    (split_one c.args.bytes.now c.loop-sector.sectors.items c.loop-sector.rest.now _ _ c.loop-sector.invariant cut.0 cut.1 cut.2)
+    (split_one c.args.bytes.now c.loop-sector.sectors.items c.loop-sector.rest.now _ _
+    c.loop-sector.invariant cut.0 cut.1 cut.2)

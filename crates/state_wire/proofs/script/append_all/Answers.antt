@@ -10,4 +10,5 @@ loop-k-preserved c =
     let more = take_one c.args.frames.now c.loop-k.k frame (sym c.in-Some.ensures) in
     c.in_ok-push.ensures.ok
     ∙ (ap (λ out. out ++ frame ∷ []) c.loop-k.invariant
-    ∙ (append_assoc c.args.out.now (take c.loop-k.k c.args.frames.now) (frame ∷ []) ∙ ap (λ list. c.args.out.now ++ list) (sym more)))
+    ∙ (append_assoc c.args.out.now (take c.loop-k.k c.args.frames.now) (frame ∷ [])
+    ∙ ap (λ list. c.args.out.now ++ list) (sym more)))
