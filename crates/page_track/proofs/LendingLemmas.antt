@@ -69,7 +69,8 @@ write_none b at = simp (append-nil, add-zero) (take-append-drop at b)
 -- a write that is inside memory isn't cut
 pub write_whole : (b : List ℕ) (address : ℕ) (part : List ℕ) → is_inside (length b) address (length part) ≡ true →
     take (length b) (overwrite b (place_of address) part) ≡ overwrite b (place_of address) part
-write_whole b address [] h = ap (take (length b)) (write_none b (place_of address)) ∙ take_all (length b) b (omega arith) ∙ sym (write_none b (place_of address))
+write_whole b address [] h = ap (take (length b)) (write_none b (place_of address))
+    ∙ take_all (length b) b (omega arith) ∙ sym (write_none b (place_of address))
 write_whole b address (x ∷ part) h =
     ⊎_elim (λ (none : length (x ∷ part) ≡ 0). absurd (omega arith))
     (λ (some : (ram_base ≤ address) × (address + length (x ∷ part) ≤ ram_base + length b)).

@@ -82,7 +82,8 @@ impl Ram {
         (self.bytes.len() / PAGE) as u32
     }
 
-    /// Whether the `len` bytes from an address on are all in memory. An empty part may have any address.
+    /// Whether the `len` bytes from an address on are all in memory. An empty part may have any
+    /// address.
     pub fn holds(&self, addr: u64, len: u64) -> bool
         ensures { result ≡ is_inside (length self.now.bytes) addr len }
     {
@@ -174,7 +175,8 @@ impl Ram {
         true
     }
 
-    /// The little-endian number of `width` bytes at an address; `None` exactly where a byte of it is outside memory.
+    /// The little-endian number of `width` bytes at an address; `None` exactly where a byte of it
+    /// is outside memory.
     ///
     /// It asks a width of 1, 2 or 4.
     #[inline(always)]
@@ -189,8 +191,8 @@ impl Ram {
         }
     }
 
-    /// Stores the lowest `width` bytes of a value at an address, little-endian. It answers `false` exactly where a byte of
-    /// it is outside memory, and then nothing changes.
+    /// Stores the lowest `width` bytes of a value at an address, little-endian. It answers `false`
+    /// exactly where a byte of it is outside memory, and then nothing changes.
     ///
     /// It asks a width of 1, 2 or 4.
     #[inline(always)]
@@ -214,8 +216,8 @@ impl Ram {
         addr.saturating_sub(u64::from(BASE)).min(self.size()) as usize
     }
 
-    /// The `len` bytes from an address on; `None` exactly where one of them is outside memory. An empty part may have any
-    /// address.
+    /// The `len` bytes from an address on; `None` exactly where one of them is outside memory. An
+    /// empty part may have any address.
     pub fn part(&self, addr: u64, len: u64) -> Option<&[u8]>
         ensures { option_copied result ≡ find_part self.now.bytes addr len }
     {
@@ -226,9 +228,11 @@ impl Ram {
         Some(&self.bytes[from..from + len as usize])
     }
 
-    /// The `len` bytes from an address on, to be written. A write through them changes no other byte.
+    /// The `len` bytes from an address on, to be written. A write through them changes no other
+    /// byte.
     ///
-    /// It asks that all of them are in memory, as `holds` tells. An empty part may have any address.
+    /// It asks that all of them are in memory, as `holds` tells. An empty part may have any
+    /// address.
     pub fn lent(&mut self, addr: u64, len: u64) -> &mut [u8]
         requires { IsTrue (is_inside (length self.old.bytes) addr len) }
         ensures* writes_back { sem 𝓛 (LendsPart self.entry addr result) }
@@ -250,10 +254,11 @@ impl Ram {
         self.lent(addr, bytes.len() as u64).copy_from_slice(bytes);
     }
 
-    /// The `len` bytes from an address on, to be written; `None` exactly where one of them is outside memory. An empty part may
-    /// have any address.
+    /// The `len` bytes from an address on, to be written; `None` exactly where one of them is
+    /// outside memory. An empty part may have any address.
     ///
-    /// No clause says what memory becomes: a contract cannot speak of an optional slice that is lent. `lent` has that clause.
+    /// No clause says what memory becomes: a contract cannot speak of an optional slice that is
+    /// lent. `lent` has that clause.
     pub fn part_mut(&mut self, addr: u64, len: u64) -> Option<&mut [u8]>
         ensures { option_copied_mut result ≡ find_part self.old.bytes addr len }
     {

@@ -18,7 +18,8 @@ use Rattle.virt_queue.specs.declared.fields.Part.{Part}
 use Rattle.virt_queue.specs.Parts.{parts_inside, is_of_kind, of_kind, readable, writable, total_len, joined, skip, write_joined, DescriptorChain, find_writable}
 
 -- the parts from the k-th on
-pub rest_at : (parts : List Part) (k : ℕ) (p : Part) → slice_get parts k ≡ Some p → drop k parts ≡ p ∷ drop (k + 1) parts
+pub rest_at : (parts : List Part) (k : ℕ) (p : Part) → slice_get parts k ≡ Some p →
+    drop k parts ≡ p ∷ drop (k + 1) parts
 rest_at parts k p h =
     drop_more parts k p (slice_get_within parts k p h)
     ∙ ap (λ (x : Part). x ∷ drop (k + 1) parts) (get_or_from_slice_get parts k p p h)
@@ -37,11 +38,13 @@ pub kind_other : (w : Bool) (p : Part) → not (beq p.writable w) ≡ true → i
 kind_other w p h = sym (kind_is w p.writable p refl) ∙ not-true (beq p.writable w) h
 
 -- those of a kind, where the k-th is one or isn't
-pub of_kind_with : (w : Bool) (parts : List Part) (k : ℕ) (p : Part) → slice_get parts k ≡ Some p → is_of_kind w p ≡ true →
+pub of_kind_with : (w : Bool) (parts : List Part) (k : ℕ) (p : Part) → slice_get parts k ≡ Some p →
+    is_of_kind w p ≡ true →
     of_kind w (drop k parts) ≡ p ∷ of_kind w (drop (k + 1) parts)
 of_kind_with w parts k p h is = ap (of_kind w) (rest_at parts k p h) ∙ (rw is refl)
 
-pub of_kind_without : (w : Bool) (parts : List Part) (k : ℕ) (p : Part) → slice_get parts k ≡ Some p → is_of_kind w p ≡ false →
+pub of_kind_without : (w : Bool) (parts : List Part) (k : ℕ) (p : Part) → slice_get parts k ≡ Some p →
+    is_of_kind w p ≡ false →
     of_kind w (drop k parts) ≡ of_kind w (drop (k + 1) parts)
 of_kind_without w parts k p h is = ap (of_kind w) (rest_at parts k p h) ∙ (rw is refl)
 
@@ -49,7 +52,8 @@ pub of_kind_end : (w : Bool) (parts : List Part) (k : ℕ) → length parts ≤ 
 of_kind_end w parts k h = ap (of_kind w) (drop_all k parts h)
 
 -- a part of a chain that is in memory is in memory
-pub part_inside : (size : ℕ) (parts : List Part) (k : ℕ) (p : Part) → parts_inside size parts ≡ true → slice_get parts k ≡ Some p →
+pub part_inside : (size : ℕ) (parts : List Part) (k : ℕ) (p : Part) → parts_inside size parts ≡ true →
+    slice_get parts k ≡ Some p →
     is_inside size p.addr p.len ≡ true
 part_inside size [] k p all h = cc
 part_inside size (x ∷ parts) zero p all h =
@@ -74,7 +78,8 @@ inside_within size address n s count h lt le =
     (and_from _ _ (le-leb ram_base (address + s) (omega (arith, ends.0)))
     (le-leb (address + s + count) (ram_base + size) (omega (arith, ends.1))))
 
-pub length-part_at : (bytes : List ℕ) (address n : ℕ) → is_inside (length bytes) address n ≡ true → length (part_at bytes address n) ≡ n
+pub length-part_at : (bytes : List ℕ) (address n : ℕ) → is_inside (length bytes) address n ≡ true →
+    length (part_at bytes address n) ≡ n
 length-part_at bytes address n h =
     let at = place_of address in
     ⊎_elim
@@ -90,14 +95,17 @@ pub record Summing (w : Bool) (parts : List Part) (k total : ℕ) : Type 0 where
   pub sum : total + total_len (of_kind w (drop k parts)) ≡ total_len (of_kind w parts)
   pub small : total ≤ k * 2 ^ 32
 
-pub sum_with : (w : Bool) (parts : List Part) (k total : ℕ) (p : Part) → Summing w parts k total → slice_get parts k ≡ Some p →
+pub sum_with : (w : Bool) (parts : List Part) (k total : ℕ) (p : Part) → Summing w parts k total →
+    slice_get parts k ≡ Some p →
     is_of_kind w p ≡ true → p.len < 2 ^ 32 → Summing w parts (k + 1) (total + p.len)
 sum_with w parts k total p i h is fits =
     let here : total_len (of_kind w (drop k parts)) ≡ p.len + total_len (of_kind w (drop (k + 1) parts)) =
-    ap total_len (of_kind_with w parts k p h is) ∙ sum_by-cons (λ (x : Part). x.len) p (of_kind w (drop (k + 1) parts)) in
+    ap total_len (of_kind_with w parts k p h is)
+    ∙ sum_by-cons (λ (x : Part). x.len) p (of_kind w (drop (k + 1) parts)) in
     record { sum = omega (arith, i.sum); small = omega (arith, i.small) }
 
-pub sum_without : (w : Bool) (parts : List Part) (k total : ℕ) (p : Part) → Summing w parts k total → slice_get parts k ≡ Some p →
+pub sum_without : (w : Bool) (parts : List Part) (k total : ℕ) (p : Part) → Summing w parts k total →
+    slice_get parts k ≡ Some p →
     is_of_kind w p ≡ false → Summing w parts (k + 1) total
 sum_without w parts k total p i h is = record {
   sum = omega (arith, i.sum, ap total_len (of_kind_without w parts k p h is));
@@ -115,7 +123,8 @@ unfolding skip
 skip_past s p parts h = rw (le-leb p.len s h) refl
 
 pub skip_into : (s : ℕ) (p : Part) (parts : List Part) → s < p.len →
-    skip s (p ∷ parts) ≡ (let rest : Part = record { addr = p.addr + s; len = p.len - s; writable = p.writable } in rest ∷ parts)
+    skip s (p ∷ parts) ≡ (let rest : Part = record { addr = p.addr + s; len = p.len - s; writable = p.writable } in
+    rest ∷ parts)
 unfolding skip
 skip_into s p parts h = rw (lt-leb p.len s h) refl
 
@@ -132,7 +141,8 @@ with_none : (m : Memory) (address : ℕ) → with_part m address [] ≡ m
 with_none m address = λ i. record { bytes = write_none m.bytes (place_of address) i }
 
 -- nothing skipped
-pub skip_none : (m : Memory) (parts : List Part) (bytes : List ℕ) → write_joined m (skip 0 parts) bytes ≡ write_joined m parts bytes
+pub skip_none : (m : Memory) (parts : List Part) (bytes : List ℕ) →
+    write_joined m (skip 0 parts) bytes ≡ write_joined m parts bytes
 unfolding skip
 skip_none m [] bytes = refl
 skip_none m (p ∷ parts) bytes =
@@ -154,19 +164,24 @@ pub write_into : (m : Memory) (s : ℕ) (p : Part) (parts : List Part) (bytes : 
     write_joined m (skip s (p ∷ parts)) bytes
     ≡ write_joined (with_part m (p.addr + s) (take count bytes)) (skip 0 parts) (drop count bytes)
 write_into m s p parts bytes count lt e =
-    let front : take (p.len - s) bytes ≡ take count bytes = sym (take_min (p.len - s) bytes) ∙ ap (λ (n : ℕ). take n bytes) (sym e) in
-    let rest : drop (p.len - s) bytes ≡ drop count bytes = sym (drop_min (p.len - s) bytes) ∙ ap (λ (n : ℕ). drop n bytes) (sym e) in
+    let front : take (p.len - s) bytes ≡ take count bytes = sym (take_min (p.len - s) bytes)
+    ∙ ap (λ (n : ℕ). take n bytes) (sym e) in
+    let rest : drop (p.len - s) bytes ≡ drop count bytes = sym (drop_min (p.len - s) bytes)
+    ∙ ap (λ (n : ℕ). drop n bytes) (sym e) in
     ap (λ (ps : List Part). write_joined m ps bytes) (skip_into s p parts lt)
     ∙ (write_cons m _ parts bytes
     ∙ (ap (λ (x : List ℕ). write_joined (with_part m (p.addr + s) x) parts (drop (p.len - s) bytes)) front
     ∙ (ap (λ (x : List ℕ). write_joined (with_part m (p.addr + s) (take count bytes)) parts x) rest
     ∙ sym (skip_none (with_part m (p.addr + s) (take count bytes)) parts (drop count bytes)))))
 
-pub record Writing (start : Memory) (parts : List Part) (from : ℕ) (bytes : List ℕ) (k : ℕ) (m : Memory) (s : ℕ) (rest : List ℕ) : Type 0 where
-  pub after : write_joined m (skip s (writable (drop k parts))) rest ≡ write_joined start (skip from (writable parts)) bytes
+pub record Writing (start : Memory) (parts : List Part) (from : ℕ) (bytes : List ℕ) (k : ℕ) (m : Memory) (s : ℕ) (rest
+    : List ℕ) : Type 0 where
+  pub after : write_joined m (skip s (writable (drop k parts))) rest ≡ write_joined start (skip from (writable parts))
+      bytes
   pub size : length m.bytes ≡ length start.bytes
 
-pub write_other : (start : Memory) (parts : List Part) (from : ℕ) (bytes : List ℕ) (k : ℕ) (m : Memory) (s : ℕ) (rest : List ℕ) (p : Part) →
+pub write_other : (start : Memory) (parts : List Part) (from : ℕ) (bytes : List ℕ) (k : ℕ) (m : Memory) (s : ℕ) (rest :
+    List ℕ) (p : Part) →
     Writing start parts from bytes k m s rest → slice_get parts k ≡ Some p → p.writable ≡ false →
     Writing start parts from bytes (k + 1) m s rest
 write_other start parts from bytes k m s rest p i h w = record {
@@ -174,7 +189,8 @@ write_other start parts from bytes k m s rest p i h w = record {
   size = i.size;
 }
 
-pub write_past : (start : Memory) (parts : List Part) (from : ℕ) (bytes : List ℕ) (k : ℕ) (m : Memory) (s : ℕ) (rest : List ℕ) (p : Part) →
+pub write_past : (start : Memory) (parts : List Part) (from : ℕ) (bytes : List ℕ) (k : ℕ) (m : Memory) (s : ℕ) (rest :
+    List ℕ) (p : Part) →
     Writing start parts from bytes k m s rest → slice_get parts k ≡ Some p → p.writable ≡ true → p.len ≤ s →
     Writing start parts from bytes (k + 1) m (s - p.len) rest
 write_past start parts from bytes k m s rest p i h w le = record {
@@ -183,8 +199,10 @@ write_past start parts from bytes k m s rest p i h w le = record {
   size = i.size;
 }
 
-pub write_here : (start : Memory) (parts : List Part) (from : ℕ) (bytes : List ℕ) (k : ℕ) (m : Memory) (s : ℕ) (rest : List ℕ) (p : Part)
-    (count : ℕ) (next : Memory) → Writing start parts from bytes k m s rest → slice_get parts k ≡ Some p → p.writable ≡ true → s < p.len →
+pub write_here : (start : Memory) (parts : List Part) (from : ℕ) (bytes : List ℕ) (k : ℕ) (m : Memory) (s : ℕ) (rest :
+    List ℕ) (p : Part)
+    (count : ℕ) (next : Memory) → Writing start parts from bytes k m s rest → slice_get parts k ≡ Some p →
+    p.writable ≡ true → s < p.len →
     count ≡ min (p.len - s) (length rest) → next ≡ with_part m (p.addr + s) (take count rest) →
     length next.bytes ≡ length m.bytes → Writing start parts from bytes (k + 1) next 0 (drop count rest)
 write_here start parts from bytes k m s rest p count next i h w lt e is size = record {
@@ -194,23 +212,29 @@ write_here start parts from bytes k m s rest p count next i h w lt e is size = r
   size = size ∙ i.size;
 }
 
-pub write_all : (start : Memory) (parts : List Part) (from : ℕ) (bytes : List ℕ) (k : ℕ) (m : Memory) (s : ℕ) (rest : List ℕ) →
-    Writing start parts from bytes k m s rest → length parts ≤ k → m ≡ write_joined start (skip from (writable parts)) bytes
+pub write_all : (start : Memory) (parts : List Part) (from : ℕ) (bytes : List ℕ) (k : ℕ) (m : Memory) (s : ℕ) (rest :
+    List ℕ) →
+    Writing start parts from bytes k m s rest → length parts ≤ k →
+    m ≡ write_joined start (skip from (writable parts)) bytes
 unfolding skip
 write_all start parts from bytes k m s rest i h =
-    sym (ap (λ (ps : List Part). write_joined m (skip s ps) rest) (of_kind_end true parts k h) ∙ write_end m rest) ∙ i.after
+    sym (ap (λ (ps : List Part). write_joined m (skip s ps) rest) (of_kind_end true parts k h) ∙ write_end m rest)
+    ∙ i.after
 
 -- a read of them
 
-joined_cons : (bytes : List ℕ) (p : Part) (parts : List Part) → joined bytes (p ∷ parts) ≡ part_at bytes p.addr p.len ++ joined bytes parts
+joined_cons : (bytes : List ℕ) (p : Part) (parts : List Part) →
+    joined bytes (p ∷ parts) ≡ part_at bytes p.addr p.len ++ joined bytes parts
 unfolding joined
 joined_cons bytes p parts = refl
 
 -- the first n bytes after s bytes of a list and another
-take_both : (a b : List ℕ) (n count : ℕ) → count ≡ min (length a) n → take n (a ++ b) ≡ take count a ++ take (n - count) b
+take_both : (a b : List ℕ) (n count : ℕ) → count ≡ min (length a) n →
+    take n (a ++ b) ≡ take count a ++ take (n - count) b
 take_both a b n count e =
     ⊎_elim
-    (λ (short : length a < n). let all : count ≡ length a = omega arith in let more : n ≡ length a + (n - count) = omega arith in
+    (λ (short : length a < n). let all : count ≡ length a = omega arith in
+    let more : n ≡ length a + (n - count) = omega arith in
     ap (λ (j : ℕ). take j (a ++ b)) more
     ∙ (take-append-add a b (n - count)
     ∙ ap (λ (x : List ℕ). x ++ take (n - count) b) (sym (take_all count a (omega arith)))))
@@ -221,7 +245,8 @@ take_both a b n count e =
     (cases_lt (length a) n)
 
 -- a part of a part
-part_within : (bytes : List ℕ) (address n s count : ℕ) → is_inside (length bytes) address n ≡ true → s < n → s + count ≤ n →
+part_within : (bytes : List ℕ) (address n s count : ℕ) → is_inside (length bytes) address n ≡ true → s < n →
+    s + count ≤ n →
     take count (drop s (part_at bytes address n)) ≡ part_at bytes (address + s) count
 part_within bytes address n s count h lt le =
     let ends = ends_inside (length bytes) address n s h lt in
@@ -233,16 +258,19 @@ part_within bytes address n s count h lt le =
     ∙ (ap (take count) (drop-take s (n - s) (drop at bytes))
     ∙ (take-take count (n - s) (drop s (drop at bytes)) (omega arith)
     ∙ (ap (take count) (drop-drop s at bytes)
-    ∙ sym (ap (λ (j : ℕ). take j (drop (place_of (address + s)) bytes)) width ∙ ap (λ (j : ℕ). take count (drop j bytes)) place))))
+    ∙ sym (ap (λ (j : ℕ). take j (drop (place_of (address + s)) bytes)) width
+    ∙ ap (λ (j : ℕ). take count (drop j bytes)) place))))
 
-pub record Reading (bytes : List ℕ) (parts : List Part) (from : ℕ) (before : List ℕ) (k s filled : ℕ) (into : List ℕ) : Type 0 where
+pub record Reading (bytes : List ℕ) (parts : List Part) (from : ℕ) (before : List ℕ) (k s filled : ℕ) (into : List ℕ) :
+    Type 0 where
   pub got : take filled into ++ take (length before - filled) (drop s (joined bytes (readable (drop k parts))))
       ≡ take (length before) (drop from (joined bytes (readable parts)))
   pub rest : drop filled into ≡ drop filled before
   pub len : length into ≡ length before
   pub within : filled ≤ length before
 
-pub read_begins : (bytes : List ℕ) (parts : List Part) (from : ℕ) (before : List ℕ) → Reading bytes parts from before 0 from 0 before
+pub read_begins : (bytes : List ℕ) (parts : List Part) (from : ℕ) (before : List ℕ) →
+    Reading bytes parts from before 0 from 0 before
 read_begins bytes parts from before = let whole : length before - 0 ≡ length before = omega arith in record {
   got = ap (λ (n : ℕ). take n (drop from (joined bytes (readable parts)))) whole;
   rest = refl;
@@ -250,7 +278,8 @@ read_begins bytes parts from before = let whole : length before - 0 ≡ length b
   within = omega arith;
 }
 
-pub read_other : (bytes : List ℕ) (parts : List Part) (from : ℕ) (before : List ℕ) (k s filled : ℕ) (into : List ℕ) (p : Part) →
+pub read_other : (bytes : List ℕ) (parts : List Part) (from : ℕ) (before : List ℕ) (k s filled : ℕ) (into : List ℕ) (p
+    : Part) →
     Reading bytes parts from before k s filled into → slice_get parts k ≡ Some p → p.writable ≡ true →
     Reading bytes parts from before (k + 1) s filled into
 read_other bytes parts from before k s filled into p i h w = record {
@@ -261,8 +290,10 @@ read_other bytes parts from before k s filled into p i h w = record {
   within = i.within;
 }
 
-pub read_past : (bytes : List ℕ) (parts : List Part) (from : ℕ) (before : List ℕ) (k s filled : ℕ) (into : List ℕ) (p : Part) →
-    parts_inside (length bytes) parts ≡ true → Reading bytes parts from before k s filled into → slice_get parts k ≡ Some p →
+pub read_past : (bytes : List ℕ) (parts : List Part) (from : ℕ) (before : List ℕ) (k s filled : ℕ) (into : List ℕ) (p :
+    Part) →
+    parts_inside (length bytes) parts ≡ true → Reading bytes parts from before k s filled into →
+    slice_get parts k ≡ Some p →
     p.writable ≡ false → p.len ≤ s → Reading bytes parts from before (k + 1) (s - p.len) filled into
 read_past bytes parts from before k s filled into p all i h w le =
     let later = readable (drop (k + 1) parts) in
@@ -285,19 +316,32 @@ read_past bytes parts from before k s filled into p all i h w le =
 copied : (into part : List ℕ) (filled count : ℕ) → filled + count ≤ length into → length part ≡ count →
     take (filled + count) (take filled into ++ (part ++ drop count (drop filled into))) ≡ take filled into ++ part
 copied into part filled count h e =
-    let front : length (take filled into ++ part) ≡ filled + count = omega (arith, length-append (take filled into) part, length-take filled into) in
+    let front : length (take filled into ++ part) ≡ filled + count = omega (
+      arith,
+      length-append (take filled into)
+          part,
+      length-take filled into,
+    ) in
     ap (take (filled + count)) (sym (append_assoc (take filled into) part (drop count (drop filled into))))
     ∙ take_at (take filled into ++ part) (drop count (drop filled into)) (filled + count) front
 
 copied_rest : (into part : List ℕ) (filled count : ℕ) → filled + count ≤ length into → length part ≡ count →
     drop (filled + count) (take filled into ++ (part ++ drop count (drop filled into))) ≡ drop (filled + count) into
 copied_rest into part filled count h e =
-    let front : length (take filled into ++ part) ≡ filled + count = omega (arith, length-append (take filled into) part, length-take filled into) in
+    let front : length (take filled into ++ part) ≡ filled + count = omega (
+      arith,
+      length-append (take filled into)
+          part,
+      length-take filled into,
+    ) in
     ap (drop (filled + count)) (sym (append_assoc (take filled into) part (drop count (drop filled into))))
-    ∙ (drop_at (take filled into ++ part) (drop count (drop filled into)) (filled + count) front ∙ drop-drop count filled into)
+    ∙ (drop_at (take filled into ++ part) (drop count (drop filled into)) (filled + count) front
+    ∙ drop-drop count filled into)
 
-pub read_here : (bytes : List ℕ) (parts : List Part) (from : ℕ) (before : List ℕ) (k s filled : ℕ) (into : List ℕ) (p : Part)
-    (count : ℕ) (part next : List ℕ) → parts_inside (length bytes) parts ≡ true → Reading bytes parts from before k s filled into →
+pub read_here : (bytes : List ℕ) (parts : List Part) (from : ℕ) (before : List ℕ) (k s filled : ℕ) (into : List ℕ) (p :
+    Part)
+    (count : ℕ) (part next : List ℕ) → parts_inside (length bytes) parts ≡ true →
+    Reading bytes parts from before k s filled into →
     slice_get parts k ≡ Some p → p.writable ≡ false → s < p.len → count ≡ min (p.len - s) (length into - filled) →
     part ≡ part_at bytes (p.addr + s) count → next ≡ take filled into ++ (part ++ drop count (drop filled into)) →
     Reading bytes parts from before (k + 1) 0 (filled + count) next
@@ -312,7 +356,8 @@ read_here bytes parts from before k s filled into p count part next all i h w lt
     let left = length before - filled in
     let a = drop s here in
     let a_len : length a ≡ p.len - s = omega (arith, length-drop s here) in
-    let more : take left (drop s (joined bytes (readable (drop k parts)))) ≡ part ++ take (left - count) (joined bytes later) =
+    let more : take left (drop s (joined bytes (readable (drop k parts)))) ≡ part ++ take (left - count) (joined bytes
+    later) =
     ap (λ (ps : List Part). take left (drop s (joined bytes ps))) (of_kind_with false parts k p h (rw w refl))
     ∙ (ap (λ (x : List ℕ). take left (drop s x)) (joined_cons bytes p later)
     ∙ (ap (take left) (drop-append-le s here (joined bytes later) (omega arith))
@@ -321,14 +366,25 @@ read_here bytes parts from before k s filled into p count part next all i h w lt
     (part_within bytes p.addr p.len s count inside_p lt (omega (arith, e)) ∙ sym is)))) in
     let rest_len : length before - (filled + count) ≡ left - count = omega arith in
     record {
-      got = ap (λ (x : List ℕ). take (filled + count) x ++ take (length before - (filled + count)) (joined bytes later)) after
-          ∙ (ap (λ (x : List ℕ). x ++ take (length before - (filled + count)) (joined bytes later)) (copied into part filled count room short)
+      got = ap (λ (x : List ℕ). take (filled + count) x ++ take (length before - (filled + count)) (joined bytes
+          later)) after
+          ∙ (ap (λ (x : List ℕ). x ++ take (length before - (filled + count)) (joined bytes later)) (copied into part
+          filled count room short)
           ∙ (ap (λ (j : ℕ). (take filled into ++ part) ++ take j (joined bytes later)) rest_len
           ∙ (append_assoc (take filled into) part (take (left - count) (joined bytes later))
           ∙ (ap (λ (x : List ℕ). take filled into ++ x) (sym more) ∙ i.got))));
       rest = ap (drop (filled + count)) after ∙ (copied_rest into part filled count room short
           ∙ (sym (drop-drop count filled into) ∙ (ap (drop count) i.rest ∙ drop-drop count filled before)));
-      len = ap length after ∙ omega (arith, length-append (take filled into) (part ++ drop count (drop filled into)), length-append part (drop count (drop filled into)), length-take filled into, length-drop count (drop filled into), length-drop filled into, i.len);
+      len = ap length after ∙ omega (
+        arith,
+        length-append (take filled into) (part ++ drop count (drop filled into)),
+        length-append part (drop count (drop filled into)),
+        length-take filled into,
+        length-drop count (drop filled
+            into),
+        length-drop filled into,
+        i.len,
+      );
       within = omega (arith, i.len);
     }
 
@@ -339,7 +395,8 @@ unfolding joined
 read_all bytes parts from before k s filled into i h =
     let none : take (length before - filled) (drop s (joined bytes (readable (drop k parts)))) ≡ [] =
     ap (λ (ps : List Part). take (length before - filled) (drop s (joined bytes ps))) (of_kind_end false parts k h)
-    ∙ (ap (take (length before - filled)) (drop_all s [] (omega arith)) ∙ take_all (length before - filled) [] (omega arith)) in
+    ∙ (ap (take (length before - filled)) (drop_all s [] (omega arith))
+    ∙ take_all (length before - filled) [] (omega arith)) in
     sym (append-nil (take filled into)) ∙ (ap (λ (x : List ℕ). take filled into ++ x) (sym none) ∙ i.got)
 
 pub read_count : (bytes : List ℕ) (parts : List Part) (from : ℕ) (before : List ℕ) (k s filled : ℕ) (into : List ℕ) →
@@ -358,7 +415,8 @@ read_whole bytes parts from before k s filled into i h =
     ∙ ap (λ (x : List ℕ). take (length before) (drop from (joined bytes (readable parts))) ++ x) i.rest)
 
 -- the part of memory that a read takes
-pub found : (bytes : List ℕ) (address n : ℕ) (o : Option (List ℕ)) → o ≡ find_part bytes address n → is_inside (length bytes) address n ≡ true →
+pub found : (bytes : List ℕ) (address n : ℕ) (o : Option (List ℕ)) → o ≡ find_part bytes address n →
+    is_inside (length bytes) address n ≡ true →
     o ≡ Some (part_at bytes address n)
 found bytes address n o e h = e ∙ (rw h refl)
 
@@ -366,7 +424,8 @@ pub some_copied : (o : Option (Bor (List ℕ))) (bytes : List ℕ) → option_co
 some_copied None bytes e = cc
 some_copied (Some part) bytes e = refl
 
-pub copied_is : (o : Option (Bor (List ℕ))) (part : Bor (List ℕ)) (bytes : List ℕ) → option_copied o ≡ Some bytes → o ≡ Some part →
+pub copied_is : (o : Option (Bor (List ℕ))) (part : Bor (List ℕ)) (bytes : List ℕ) → option_copied o ≡ Some bytes →
+    o ≡ Some part →
     part.now ≡ bytes
 copied_is o part bytes e is = let same = sym (ap option_copied is) ∙ e in cc
 
@@ -378,7 +437,8 @@ lent_inside size p from n h le =
     (λ (end : p.len ≤ from). let none : n ≡ 0 = omega arith in rw none refl)
     (cases_lt from p.len)
 
-pub lent_fits : (size : ℕ) (p : Part) (from : ℕ) → is_inside size p.addr p.len ≡ true → size ≤ 2 ^ 26 → from ≤ p.len → p.addr < 2 ^ 64 →
+pub lent_fits : (size : ℕ) (p : Part) (from : ℕ) → is_inside size p.addr p.len ≡ true → size ≤ 2 ^ 26 →
+    from ≤ p.len → p.addr < 2 ^ 64 →
     p.addr + from < 2 ^ 64
 lent_fits size p from h small le fits =
     ⊎_elim (λ (lt : from < p.len). let ends = ends_inside size p.addr p.len from h lt in omega (arith, ends.0, ends.1))
@@ -387,7 +447,8 @@ lent_fits size p from h small le fits =
     (cases_lt from 1))
     (cases_lt from p.len)
 
-pub writable_part : (bytes : List ℕ) (chain : DescriptorChain) (k from n : ℕ) (p : Part) → slice_get chain.parts k ≡ Some p →
+pub writable_part : (bytes : List ℕ) (chain : DescriptorChain) (k from n : ℕ) (p : Part) →
+    slice_get chain.parts k ≡ Some p →
     p.writable ≡ true → from + n ≤ p.len → is_inside (length bytes) p.addr p.len ≡ true →
     find_part bytes (p.addr + from) n ≡ find_writable bytes chain k from n
 writable_part bytes chain k from n p h w le all =

@@ -6,7 +6,8 @@ use Rattle.std.specs.Prelude.{nat_eq, nat_le}
 use Rattle.virt_queue.specs.Queue.{queue_sizes, is_queue_size}
 
 -- a number that is in a list is at most what each of the list is
-in_list-le : (n most : ℕ) (xs : List ℕ) → list_all (λ x. nat_le x most) xs ≡ true → list_any (nat_eq n) xs ≡ true → n ≤ most
+in_list-le : (n most : ℕ) (xs : List ℕ) → list_all (λ x. nat_le x most) xs ≡ true → list_any (nat_eq n) xs ≡ true →
+    n ≤ most
 in_list-le n most [] all any = absurd (false≢true any)
 in_list-le n most (x ∷ xs) all any =
     let parts = and_parts (nat_le x most) (list_all (λ y. nat_le y most) xs) all in

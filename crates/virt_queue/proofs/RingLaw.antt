@@ -6,6 +6,7 @@ use Rattle.std.specs.Prelude.{nat_le}
 use Rattle.std.proofs.lemmas.List.FromFn.{map-range_with_len_more}
 use Rattle.std.proofs.lemmas.List.Folds.{list_all-append}
 use Rattle.std.proofs.lemmas.Bool.{cases_lt, false≢true, not-false, not-true, and_from}
+use Rattle.shared_definitions.specs.FirstOf.{first_of}
 use Rattle.virt_queue.specs.declared.fields.QueueFields.{QueueFields}
 use Rattle.virt_queue.specs.declared.fields.RingFault.{RingFault}
 use Rattle.shared_definitions.specs.Memory.{is_inside}
@@ -13,7 +14,7 @@ use Rattle.virt_queue.specs.declared.fields.RingFault.TheVariants.{Loop, Outside
 use Rattle.virt_queue.specs.declared.fields.Part.{Part}
 use Rattle.virt_queue.specs.Parts.{DescriptorChain, parts_inside}
 use Rattle.virt_queue.specs.Ring.{head_of, has_next, is_indirect, is_writable}
-use Rattle.virt_queue.specs.Chain.{index_at, after_writable, link, fault_at, stops, last_place, first_parts, chain_to, read_chain, Leads, IsChain, IsFault, ReadsTheRing, first_fault, part_of, after_chain}
+use Rattle.virt_queue.specs.Chain.{index_at, after_writable, link, fault_at, stops, last_place, first_parts, chain_to, read_chain, Leads, IsChain, IsFault, ReadsTheRing, part_of, after_chain}
 use Rattle.virt_queue.proofs.ChainLemmas.{last_place_is, read_at, same_chain, fault_at_number, stops_well, stops_badly, before_last, at_last}
 
 -- what doesn't stop has no fault and a next one
@@ -53,12 +54,14 @@ last_ends bytes q none =
     let there = ap (fault_at bytes q) at in absurd (let no : ⊥ = cc in no))
     (cases_lt k q.num)
 
-read_is : (bytes : List ℕ) (q : QueueFields) (fault : Option RingFault) → fault_at bytes q (last_place bytes q) ≡ fault →
+read_is : (bytes : List ℕ) (q : QueueFields) (fault : Option RingFault) →
+    fault_at bytes q (last_place bytes q) ≡ fault →
     read_chain bytes q ≡ chain_to bytes q (last_place bytes q) fault
 read_is bytes q fault e = read_at bytes q (last_place bytes q) refl ∙ ap (chain_to bytes q (last_place bytes q)) e
 
 chain_read : (bytes : List ℕ) (q : QueueFields) (c : DescriptorChain) (fault : Option RingFault) →
-    fault_at bytes q (last_place bytes q) ≡ fault → read_chain bytes q ≡ Ok c → (c.head ≡ head_of bytes q) × IsChain bytes q c.parts
+    fault_at bytes q (last_place bytes q) ≡ fault → read_chain bytes q ≡ Ok c → (c.head ≡ head_of bytes q)
+    × IsChain bytes q c.parts
 chain_read bytes q c None e r =
     let k = last_place bytes q in
     let whole : DescriptorChain = record { head = head_of bytes q; parts = first_parts bytes q (k + 1) } in
@@ -75,7 +78,8 @@ fault_read bytes q f (Some g) e r =
     let same : g ≡ f = let s = sym r ∙ read_is bytes q (Some g) e in cc in
     (last_place bytes q, leads_to_last bytes q, e ∙ ap (λ (x : RingFault). let o : Option RingFault = Some x in o) same)
 
-chain_is_read : (bytes : List ℕ) (q : QueueFields) (c : DescriptorChain) → (c.head ≡ head_of bytes q) × IsChain bytes q c.parts →
+chain_is_read : (bytes : List ℕ) (q : QueueFields) (c : DescriptorChain) → (c.head ≡ head_of bytes q)
+    × IsChain bytes q c.parts →
     read_chain bytes q ≡ Ok c
 chain_is_read bytes q c (head, (k, leads, none, end, parts)) =
     let last = last_place_is bytes q k (led_within bytes q k leads) (never bytes q k leads)
@@ -92,7 +96,7 @@ fault_is_read bytes q f (k, leads, fault) =
     read_at bytes q k last ∙ ap (chain_to bytes q k) fault
 
 -- where no test holds the last one doesn't
-last_test : (a b c d : Bool) → first_fault ((Size, a) ∷ (Loop, b) ∷ (Order, c) ∷ (Outside, d) ∷ []) ≡ None → d ≡ false
+last_test : (a b c d : Bool) → first_of ((Size, a) ∷ (Loop, b) ∷ (Order, c) ∷ (Outside, d) ∷ []) ≡ None → d ≡ false
 last_test true b c d e = cc
 last_test false true c d e = cc
 last_test false false true d e = cc
@@ -106,7 +110,8 @@ link_inside bytes q k e =
     let d = link bytes q k in
     let outside = not (is_inside (length bytes) d.addr d.len) in
     not-false (is_inside (length bytes) d.addr d.len)
-    (last_test (nat_le q.num (index_at bytes q k)) (nat_le q.num k) (is_indirect d || (after_writable bytes q k && not (is_writable d)))
+    (last_test (nat_le q.num (index_at bytes q k)) (nat_le q.num k) (is_indirect d || (after_writable bytes q k && not
+    (is_writable d)))
     outside e)
 
 first_inside : (bytes : List ℕ) (q : QueueFields) (n : ℕ) → ((j : ℕ) → j < n → fault_at bytes q j ≡ None) →
@@ -122,7 +127,8 @@ first_inside bytes q (suc n) none =
     ∙ and_from _ _ before (and_from _ _ last refl)))
 
 -- the parts of a chain that was read are in memory
-chain_inside : (bytes : List ℕ) (q : QueueFields) (c : DescriptorChain) → IsChain bytes q c.parts → parts_inside (length bytes) c.parts ≡ true
+chain_inside : (bytes : List ℕ) (q : QueueFields) (c : DescriptorChain) → IsChain bytes q c.parts →
+    parts_inside (length bytes) c.parts ≡ true
 chain_inside bytes q c (k, leads, none, end, parts) =
     ap (parts_inside (length bytes)) parts
     ∙ first_inside bytes q (k + 1) (below_more (λ (j : ℕ). fault_at bytes q j ≡ None) k (λ j lt. (leads j lt).0) none)
@@ -131,7 +137,8 @@ pub read_inside : (bytes : List ℕ) (q : QueueFields) (c : DescriptorChain) →
     parts_inside (length bytes) c.parts ≡ true
 read_inside bytes q c r = chain_inside bytes q c (chain_read bytes q c (fault_at bytes q (last_place bytes q)) refl r).1
 
-pub ready_after : (q : QueueFields) (answer : Result (Option DescriptorChain) RingFault) → (after_chain q answer).ready ≡ q.ready
+pub ready_after : (q : QueueFields) (answer : Result (Option DescriptorChain) RingFault) →
+    (after_chain q answer).ready ≡ q.ready
 ready_after q (Ok None) = refl
 ready_after q (Ok (Some chain)) = refl
 ready_after q (Err fault) = refl

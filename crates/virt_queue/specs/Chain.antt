@@ -1,8 +1,10 @@
--- The descriptor chain at the next position of the available ring (VIRTIO 1.1, 2.6.4 "Message Framing", 2.6.5 "The Virtqueue Descriptor
--- Table" and 2.6.13 "Supplying Buffers to The Device"), or the first reason why there is none. It is spoken of as a whole: the k-th
--- descriptor, the first that stops, and the parts up to it.
+-- The descriptor chain at the next position of the available ring (VIRTIO 1.1, 2.6.4 "Message
+-- Framing", 2.6.5 "The Virtqueue Descriptor Table" and 2.6.13 "Supplying Buffers to The Device"),
+-- or the first reason why there is none. It is spoken of as a whole: the k-th descriptor, the first
+-- that stops, and the parts up to it.
 use Rattle.std.specs.Prelude.{◌≡◌, ◌↔◌, ℕ, ◌+◌, ◌<◌, ◌==◌, zero, suc, nat_lt, nat_le, Bool, true, false, not, ◌&&◌, ◌||◌, if◌then◌else◌, Option, Some, None, is_some, Result, Ok, Err, List, [], ◌∷◌, length, map}
 use Rattle.std.specs.List.{range_with_len, position_or_len}
+use Rattle.shared_definitions.specs.FirstOf.{first_of}
 use Rattle.shared_definitions.specs.Memory.{is_inside}
 use Rattle.virt_queue.specs.declared.fields.QueueFields.{QueueFields}
 use Rattle.virt_queue.specs.declared.fields.RingFault.{RingFault}
@@ -30,13 +32,9 @@ unfoldable pub after_writable : List ℕ → QueueFields → ℕ → Bool
 after_writable bytes q zero = false
 after_writable bytes q (suc k) = is_writable (link bytes q k)
 
--- the first of a list of tests that holds
-abbrev pub first_fault : List (RingFault × Bool) → Option RingFault
-first_fault [] = None
-first_fault (test ∷ tests) = if test.1 then Some test.0 else first_fault tests
-
--- the tests of the k-th descriptor, in order: its index is in the table, no more descriptors than the queue's number, no indirect table and
--- no readable part after a writable one, and its part is in memory
+-- the tests of the k-th descriptor, in order: its index is in the table, no more descriptors than
+-- the queue's number, no indirect table and no readable part after a writable one, and its part is
+-- in memory
 abbrev pub tests : List ℕ → QueueFields → ℕ → ℕ → Bool → List (RingFault × Bool)
 tests bytes q k index after = let d = descriptor_at bytes q index in
     (Size, nat_le q.num index)
@@ -47,13 +45,14 @@ tests bytes q k index after = let d = descriptor_at bytes q index in
 
 -- the first fault of the k-th descriptor
 abbrev pub fault_at : List ℕ → QueueFields → ℕ → Option RingFault
-fault_at bytes q k = first_fault (tests bytes q k (index_at bytes q k) (after_writable bytes q k))
+fault_at bytes q k = first_of (tests bytes q k (index_at bytes q k) (after_writable bytes q k))
 
 -- whether the chain ends at the k-th descriptor, well or badly
 abbrev pub stops : List ℕ → QueueFields → ℕ → Bool
 stops bytes q k = is_some (fault_at bytes q k) || not (has_next (link bytes q k))
 
--- the place of the first descriptor at which it ends; at most the queue's number, where there is one too many
+-- the place of the first descriptor at which it ends; at most the queue's number, where there is
+-- one too many
 unfoldable pub last_place : List ℕ → QueueFields → ℕ
 last_place bytes q = position_or_len (stops bytes q) (range_with_len 0 q.num)
 
@@ -63,7 +62,8 @@ first_parts bytes q n = map (λ k. part_of (link bytes q k)) (range_with_len 0 n
 
 -- the chain up to there, or the fault
 abbrev pub chain_to : List ℕ → QueueFields → ℕ → Option RingFault → Result DescriptorChain RingFault
-chain_to bytes q last None = Ok (record { head = head_of bytes q; parts = first_parts bytes q (last + 1) })
+chain_to bytes q last None =
+    Ok (record { head = head_of bytes q; parts = first_parts bytes q (last + 1) })
 chain_to bytes q last (Some fault) = Err fault
 
 unfoldable pub read_chain : List ℕ → QueueFields → Result DescriptorChain RingFault
@@ -74,7 +74,8 @@ abbrev pub some_chain : Result DescriptorChain RingFault → Result (Option Desc
 some_chain (Ok chain) = Ok (Some chain)
 some_chain (Err fault) = Err fault
 
--- the next chain: the ring's parts are in memory, no more entries wait than the queue's number, one waits, and its chain has no fault
+-- the next chain: the ring's parts are in memory, no more entries wait than the queue's number, one
+-- waits, and its chain has no fault
 unfoldable pub next_chain : List ℕ → QueueFields → Result (Option DescriptorChain) RingFault
 next_chain bytes q =
     if not (ring_inside (length bytes) q) then Err Outside
@@ -109,7 +110,8 @@ after_chain q (Ok (Some chain)) = record q { next = after_position q.next }
 after_chain q (Err fault) = q
 
 -- a walk answers what was read, and leaves the chain where there is one
-abbrev pub IsRead : Result DescriptorChain RingFault → Result (Unit {0}) RingFault → DescriptorChain → Type 0
+abbrev pub IsRead : Result DescriptorChain RingFault → Result (Unit {0}) RingFault →
+    DescriptorChain → Type 0
 IsRead (Ok chain) answer left = (answer ≡ Ok tt) × (left ≡ chain)
 IsRead (Err fault) answer left = answer ≡ Err fault
 
@@ -117,9 +119,11 @@ IsRead (Err fault) answer left = answer ≡ Err fault
 abbrev pub Leads : List ℕ → QueueFields → ℕ → Type 0
 Leads bytes q k = (j : ℕ) → j < k → (fault_at bytes q j ≡ None) × (has_next (link bytes q j) ≡ true)
 
--- these are the parts of the ring's chain: they lead to a last descriptor, without a fault and without a next one
+-- these are the parts of the ring's chain: they lead to a last descriptor, without a fault and
+-- without a next one
 abbrev pub IsChain : List ℕ → QueueFields → List Part → Type 0
-IsChain bytes q parts = (k : ℕ) × (Leads bytes q k) × (fault_at bytes q k ≡ None) × (has_next (link bytes q k) ≡ false)
+IsChain bytes q parts = (k : ℕ) × (Leads bytes q k)
+    × (fault_at bytes q k ≡ None) × (has_next (link bytes q k) ≡ false)
     × (parts ≡ first_parts bytes q (k + 1))
 
 -- this is the first fault of the ring's chain
@@ -128,5 +132,6 @@ IsFault bytes q fault = (k : ℕ) × (Leads bytes q k) × (fault_at bytes q k �
 
 -- what is read is the ring's chain or its first fault, and each of them is read
 pub record ReadsTheRing (bytes : List ℕ) (q : QueueFields) : Type 0 where
-  pub chain : (c : DescriptorChain) → (read_chain bytes q ≡ Ok c) ↔ ((c.head ≡ head_of bytes q) × IsChain bytes q c.parts)
+  pub chain : (c : DescriptorChain) → (read_chain bytes q ≡ Ok c)
+      ↔ ((c.head ≡ head_of bytes q) × IsChain bytes q c.parts)
   pub fault : (f : RingFault) → (read_chain bytes q ≡ Err f) ↔ IsFault bytes q f

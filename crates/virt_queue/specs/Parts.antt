@@ -1,5 +1,5 @@
--- The parts of memory that a descriptor chain names, and the bytes in them, joined (VIRTIO 1.1, 2.6.4 "Message
--- Framing": how the bytes are cut into parts means nothing).
+-- The parts of memory that a descriptor chain names, and the bytes in them, joined (VIRTIO 1.1,
+-- 2.6.4 "Message Framing": how the bytes are cut into parts means nothing).
 use Rattle.std.specs.Prelude.{ℕ, ◌+◌, ◌-◌, nat_le, Bool, true, false, not, ◌&&◌, if◌then◌else◌, Option, Some, None, option_and_then, List, [], ◌∷◌, ◌++◌, length, take, drop, filter, sum_by, slice_get}
 use Rattle.std.specs.List.{list_all}
 use Rattle.shared_definitions.specs.Memory.{is_inside}
@@ -13,12 +13,15 @@ pub record DescriptorChain : Type 0 where
 
 -- the bytes of part k, where there is one and it is in memory
 abbrev pub find_chain_part : List ℕ → DescriptorChain → ℕ → Option (List ℕ)
-find_chain_part bytes chain k = option_and_then (λ (p : Part). find_part bytes p.addr p.len) (slice_get chain.parts k)
+find_chain_part bytes chain k =
+    option_and_then (λ (p : Part). find_part bytes p.addr p.len) (slice_get chain.parts k)
 
--- the bytes of part k from its byte `from` on, n of them, where it is writable, in memory and as long
+-- the bytes of part k from its byte `from` on, n of them, where it is writable, in memory and as
+-- long
 abbrev pub find_writable : List ℕ → DescriptorChain → ℕ → ℕ → ℕ → Option (List ℕ)
 find_writable bytes chain k from n = option_and_then
-    (λ (p : Part). if p.writable && (nat_le (from + n) p.len && is_inside (length bytes) p.addr p.len)
+    (λ (p : Part).
+    if p.writable && (nat_le (from + n) p.len && is_inside (length bytes) p.addr p.len)
     then Some (part_at bytes (p.addr + from) n) else None)
     (slice_get chain.parts k)
 
@@ -57,7 +60,8 @@ skip n (p ∷ parts) =
     if nat_le p.len n then skip (n - p.len) parts
     else record { addr = p.addr + n; len = p.len - n; writable = p.writable } ∷ parts
 
--- memory with bytes written over parts: the first over the first part, and so on to the end of either
+-- memory with bytes written over parts: the first over the first part, and so on to the end of
+-- either
 unfoldable pub write_joined : Memory → List Part → List ℕ → Memory
 write_joined memory [] bytes = memory
 write_joined memory (p ∷ parts) bytes =

@@ -1,4 +1,5 @@
--- The fields of a queue (VIRTIO 1.1, 2.6 "Split Virtqueues" and 4.2.2 "MMIO Device Register Layout").
+-- The fields of a queue (VIRTIO 1.1, 2.6 "Split Virtqueues" and 4.2.2 "MMIO Device Register
+-- Layout").
 use Rattle.std.specs.Prelude.{ℕ, Bool, false, not, ◌||◌, nat_eq, List, [], ◌∷◌}
 use Rattle.std.specs.List.{list_any}
 use Rattle.virt_queue.specs.declared.fields.QueueFields.{QueueFields}

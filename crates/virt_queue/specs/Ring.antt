@@ -1,5 +1,6 @@
--- Where the parts of a split virtqueue stand in memory, and what stands there: the descriptor table, the available ring and the used
--- ring (VIRTIO 1.1, 2.6.5, 2.6.6 and 2.6.8). All numbers are little-endian. A queue's fields name them desc, driver and device.
+-- Where the parts of a split virtqueue stand in memory, and what stands there: the descriptor
+-- table, the available ring and the used ring (VIRTIO 1.1, 2.6.5, 2.6.6 and 2.6.8). All numbers are
+-- little-endian. A queue's fields name them desc, driver and device.
 use Rattle.std.specs.Prelude.{ℕ, ◌+◌, ◌-◌, ◌*◌, ◌%◌, ◌^◌, ◌==◌, Bool, not, ◌&&◌, bit_and, List, ◌++◌}
 use Rattle.shared_definitions.specs.Memory.{is_inside, little_endian, little_endian_bytes}
 use Rattle.page_track.specs.Memory.{Memory, part_at, with_part}
@@ -13,7 +14,8 @@ number bytes address n = little_endian (part_at bytes address n)
 -- whether the three parts of a ring are in memory of this size, without the fields of event indices
 abbrev pub ring_inside : ℕ → QueueFields → Bool
 ring_inside size q =
-    is_inside size q.desc (16 * q.num) && (is_inside size q.driver (4 + 2 * q.num) && is_inside size q.device (4 + 8 * q.num))
+    is_inside size q.desc (16 * q.num)
+    && (is_inside size q.driver (4 + 2 * q.num) && is_inside size q.device (4 + 8 * q.num))
 
 -- descriptor k of the table: addr, len, flags, next
 abbrev pub descriptor_at : List ℕ → QueueFields → ℕ → Descriptor
@@ -50,8 +52,11 @@ asks_interrupt bytes q = bit_and (number bytes q.driver 2) 1 == 0
 abbrev pub after_position : ℕ → ℕ
 after_position position = (position + 1) % 2 ^ 16
 
--- memory with an entry of the used ring at the used position, id and len, and then idx as the position after it (2.6.8)
+-- memory with an entry of the used ring at the used position, id and len, and then idx as the
+-- position after it (2.6.8)
 unfoldable pub with_used : Memory → QueueFields → ℕ → ℕ → Memory
 with_used memory q head len =
-    let entry = with_part memory (q.device + 4 + 8 * (q.used % q.num)) (little_endian_bytes 4 head ++ little_endian_bytes 4 len) in
-    with_part entry (q.device + 2) (little_endian_bytes 2 (after_position q.used))
+    let place = q.device + 4 + 8 * (q.used % q.num) in
+    let entry = little_endian_bytes 4 head ++ little_endian_bytes 4 len in
+    let idx = little_endian_bytes 2 (after_position q.used) in
+    with_part (with_part memory place entry) (q.device + 2) idx

@@ -19,8 +19,8 @@ const NO_PART: Part = Part {
     writable: false,
 };
 
-/// A descriptor chain: the index of its first descriptor, and the parts of memory that it names, at most
-/// 256.
+/// A descriptor chain: the index of its first descriptor, and the parts of memory that it names, at
+/// most 256.
 ///
 /// Contracts see it as a `DescriptorChain`: its `head`, and the list of its `parts`.
 #[derive(Drop)]
@@ -92,7 +92,8 @@ impl Chain {
         self.at(k).writable
     }
 
-    /// The bytes of part `k`; `None` exactly where there is no such part, or it isn't in this memory.
+    /// The bytes of part `k`; `None` exactly where there is no such part, or it isn't in this
+    /// memory.
     pub fn part<'r>(&self, ram: &'r Ram, k: usize) -> Option<&'r [u8]>
         ensures { option_copied result ≡ find_chain_part ram.now.bytes self.now k }
     {
@@ -103,8 +104,9 @@ impl Chain {
         ram.part(part.addr, u64::from(part.len))
     }
 
-    /// The `len` bytes of part `k` from its byte `from` on, to be written; `None` exactly where there is no
-    /// such part, it isn't in this memory or isn't writable, or `from + len` passes its end.
+    /// The `len` bytes of part `k` from its byte `from` on, to be written; `None` exactly where
+    /// there is no such part, it isn't in this memory or isn't writable, or `from + len` passes its
+    /// end.
     ///
     /// No clause says what memory becomes, as at `Ram::part_mut`: `write` has that clause.
     pub fn part_mut<'r>(

@@ -16,7 +16,8 @@ pub enum RingFault {
     Order,
 }
 
-/// A part of memory that a descriptor names: its address, its bytes, and whether the device writes it.
+/// A part of memory that a descriptor names: its address, its bytes, and whether the device writes
+/// it.
 #[derive(Clone, Copy, Debug, PartialEq, Eq)]
 pub struct Part {
     pub addr: u64,
@@ -24,9 +25,9 @@ pub struct Part {
     pub writable: bool,
 }
 
-/// What a queue holds: its number, whether it is ready, the addresses of its descriptor table, available
-/// ring (`driver`) and used ring (`device`), the next position of the available ring and that of the used
-/// ring.
+/// What a queue holds: its number, whether it is ready, the addresses of its descriptor table,
+/// available ring (`driver`) and used ring (`device`), the next position of the available ring and
+/// that of the used ring.
 #[derive(Clone, Copy, Debug, PartialEq, Eq)]
 pub struct QueueFields {
     pub num: u32,
@@ -38,7 +39,8 @@ pub struct QueueFields {
     pub used: u16,
 }
 
-/// Whether a queue may have this number: a power of two from 1 to 256 (VIRTIO 1.1, 2.6: a power of two).
+/// Whether a queue may have this number: a power of two from 1 to 256 (VIRTIO 1.1, 2.6: a power of
+/// two).
 pub fn is_queue_size(num: u32) -> bool
     ensures { result ≡ is_queue_size num }
 {

@@ -36,15 +36,16 @@ impl Chain {
         self.total_len(true)
     }
 
-    /// Copies the bytes of the readable parts, joined, from the byte `from` on, until they end or `into` is
-    /// full. It answers how many it copied; the rest of `into` stays.
+    /// Copies the bytes of the readable parts, joined, from the byte `from` on, until they end or
+    /// `into` is full. It answers how many it copied; the rest of `into` stays.
     ///
     /// It asks that all parts are in memory, as those of a chain that was taken from it are.
     pub fn read(&self, ram: &Ram, from: u64, into: &mut [u8]) -> usize
         requires { IsTrue (parts_inside (length ram.now.bytes) self.now.parts) }
-        ensures count { result ≡ length (take (length into.old) (drop from (joined ram.now.bytes (readable self.now.parts)))) }
-        ensures bytes { into.new ≡ take (length into.old) (drop from (joined ram.now.bytes (readable self.now.parts)))
-            ++ drop result into.old }
+        ensures count { let bytes = joined ram.now.bytes (readable self.now.parts) in
+            result ≡ length (take (length into.old) (drop from bytes)) }
+        ensures bytes { let bytes = joined ram.now.bytes (readable self.now.parts) in
+            into.new ≡ take (length into.old) (drop from bytes) ++ drop result into.old }
     {
         let _size = ram.size();
         let mut skip = from;
@@ -73,7 +74,8 @@ impl Chain {
     /// It asks that all parts are in memory, as those of a chain that was taken from it are.
     pub fn write(&self, ram: &mut Ram, from: u64, bytes: &[u8])
         requires { IsTrue (parts_inside (length ram.old.bytes) self.now.parts) }
-        ensures after { ram.new ≡ write_joined ram.old (skip from (writable self.now.parts)) bytes.now }
+        ensures after { ram.new
+            ≡ write_joined ram.old (skip from (writable self.now.parts)) bytes.now }
         ensures size { length ram.new.bytes ≡ length ram.old.bytes }
     {
         let _size = ram.size();

@@ -1,8 +1,9 @@
-//! Split virtqueues (VIRTIO 1.1, 2.6) in a machine's memory: the next descriptor chain of the available
-//! ring, the parts of memory that it names, and the used ring.
+//! Split virtqueues (VIRTIO 1.1, 2.6) in a machine's memory: the next descriptor chain of the
+//! available ring, the parts of memory that it names, and the used ring.
 //!
-//! The crate is used alone by any device over a [`page_track::Ram`]. A `Queue` holds what the driver set
-//! and the device's two positions. It is asked for a chain, which is worked on and then returned:
+//! The crate is used alone by any device over a [`page_track::Ram`]. A `Queue` holds what the
+//! driver set and the device's two positions. It is asked for a chain, which is worked on and then
+//! returned:
 //!
 //! ```text
 //! let mut chain = Chain::new();
@@ -13,8 +14,9 @@
 //! }
 //! ```
 //!
-//! Nothing is asked of memory or of the fields but that a ready queue has a size: rings may lie outside
-//! memory or over one another, chains may loop, and each such case has its fault. No call takes memory.
+//! Nothing is asked of memory or of the fields but that a ready queue has a size: rings may lie
+//! outside memory or over one another, chains may loop, and each such case has its fault. No call
+//! takes memory.
 #![tactic(auto)]
 
 mod chain;

@@ -14,7 +14,8 @@ use crate::walk::walk;
 use page_track::Ram;
 use std::marker::Model;
 
-/// A split virtqueue (VIRTIO 1.1, 2.6): what the driver set, and the device's positions in both rings.
+/// A split virtqueue (VIRTIO 1.1, 2.6): what the driver set, and the device's positions in both
+/// rings.
 ///
 /// Contracts see it as its `QueueFields`. A ready queue's number is a power of two from 1 to 256.
 #[derive(Drop)]
@@ -62,8 +63,8 @@ impl Queue {
         self.fields
     }
 
-    /// It holds these values from now on. It asks, where they are ready, a power of two from 1 to 256 as
-    /// `num`.
+    /// It holds these values from now on. It asks, where they are ready, a power of two from 1 to
+    /// 256 as `num`.
     pub fn set_fields(&mut self, f: &QueueFields)
         requires { IsTrue (is_legal f.now) }
         ensures { self.new ≡ f.now }
@@ -84,11 +85,11 @@ impl Queue {
         !ring::ring_inside(q, ram) || ring::waiting(q, ram) != 0
     }
 
-    /// Takes the next chain of the available ring: `true` where there is one, and then the next position
-    /// goes on by 1. `false` comes exactly where none is available. A fault is the first in this order:
-    /// `Outside` where a byte of the ring's parts is outside memory, `Size` where more entries wait than
-    /// the queue's number, and then those of each descriptor from the head on. After `false` or a fault
-    /// the chain has no parts and the queue is as before.
+    /// Takes the next chain of the available ring: `true` where there is one, and then the next
+    /// position goes on by 1. `false` comes exactly where none is available. A fault is the first
+    /// in this order: `Outside` where a byte of the ring's parts is outside memory, `Size` where
+    /// more entries wait than the queue's number, and then those of each descriptor from the head
+    /// on. After `false` or a fault the chain has no parts and the queue is as before.
     ///
     /// It asks a ready queue.
     #[tactic(auto, using(crate::proofs::RingLaw::ready_after), unfolding(crate::specs::Chain::next_chain))]
@@ -120,16 +121,17 @@ impl Queue {
         Ok(true)
     }
 
-    /// Returns a chain by its head: an entry of the used ring with the number of bytes that were written
-    /// into it, and then idx as the device's own position plus 1, whatever stood there. It answers whether
-    /// the driver asks for an interrupt, as the available ring says after that.
+    /// Returns a chain by its head: an entry of the used ring with the number of bytes that were
+    /// written into it, and then idx as the device's own position plus 1, whatever stood there. It
+    /// answers whether the driver asks for an interrupt, as the available ring says after that.
     ///
     /// `Outside` comes exactly where a byte of the ring's parts is outside memory, and then nothing
     /// changes. It asks a ready queue.
     pub fn push_used(&mut self, ram: &mut Ram, head: u32, len: u32) -> Result<bool, RingFault>
         requires { IsTrue self.old.ready }
         ensures answer { result ≡ (if ring_inside (length ram.old.bytes) self.old
-            then Ok (asks_interrupt (with_used ram.old self.old head len).bytes self.old) else Err RingFault.Outside) }
+            then Ok (asks_interrupt (with_used ram.old self.old head len).bytes self.old)
+            else Err RingFault.Outside) }
         ensures memory { ram.new ≡ (if ring_inside (length ram.old.bytes) self.old
             then with_used ram.old self.old head len else ram.old) }
         ensures queue { self.new ≡ (if ring_inside (length ram.old.bytes) self.old
@@ -147,8 +149,8 @@ impl Queue {
     }
 }
 
-/// What is read of a ring is its chain, from the head to the last descriptor, or its first fault, and
-/// each of them is read.
+/// What is read of a ring is its chain, from the head to the last descriptor, or its first fault,
+/// and each of them is read.
 pub fn chain_is_the_rings()
     ensures { (bytes : List ℕ) (q : QueueFields) → ReadsTheRing bytes q }
 {}

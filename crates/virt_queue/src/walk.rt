@@ -1,18 +1,19 @@
 //! The walk from a chain's head to its last descriptor.
 
 ghost use Rattle.std.specs.Prelude.{◌≡◌, ◌<◌, ◌≤◌, ◌^◌, length, IsTrue, OnOk, MatchResult, Some, None};
+ghost use Rattle.shared_definitions.specs.FirstOf.{first_of};
 ghost use Rattle.virt_queue.specs.Queue.{is_queue_size};
 ghost use Rattle.virt_queue.specs.Ring.{ring_inside, descriptor_at};
 ghost use Rattle.virt_queue.specs.Parts.{parts_inside};
-ghost use Rattle.virt_queue.specs.Chain.{first_fault, tests, part_of, read_chain, IsRead};
+ghost use Rattle.virt_queue.specs.Chain.{tests, part_of, read_chain, IsRead};
 
 use crate::chain::Chain;
 use crate::fields::{Part, QueueFields, RingFault};
 use crate::ring::{self, Descriptor};
 use page_track::Ram;
 
-/// The descriptor at an index, the `k`-th of its chain, where it has no fault; else the first fault of it.
-/// `after` is whether the descriptor before it is writable.
+/// The descriptor at an index, the `k`-th of its chain, where it has no fault; else the first fault
+/// of it. `after` is whether the descriptor before it is writable.
 fn check(
     q: &QueueFields,
     ram: &Ram,
@@ -24,8 +25,9 @@ fn check(
     requires small { length ram.now.bytes ≤ 2 ^ 26 }
     ensures place { OnOk result (k < q.now.num) }
     ensures answer { MatchResult result
-        (λ d. (first_fault (tests ram.now.bytes q.now k index after) ≡ None) × (d ≡ descriptor_at ram.now.bytes q.now index))
-        (λ fault. first_fault (tests ram.now.bytes q.now k index after) ≡ Some fault) }
+        (λ d. (first_of (tests ram.now.bytes q.now k index after) ≡ None)
+        × (d ≡ descriptor_at ram.now.bytes q.now index))
+        (λ fault. first_of (tests ram.now.bytes q.now k index after) ≡ Some fault) }
 {
     if index >= q.num {
         return Err(RingFault::Size);

@@ -34,7 +34,8 @@ returns-then-not-has_next c =
     let is = link_is bytes q c.loop-k.k c.loop-k.index c.loop-k.after c.loop-k.chain d w answer.1 in
     let end : has_next d ≡ false = sym c.has_next.ensures ∙ c.if-not-has_next.true in
     let parts = c.push.ensures.parts ∙ push_part c.loop-k.chain.parts d c.is_writable.result c.is_writable.ensures in
-    let read = walk_ends bytes q c.loop-k.k c.loop-k.index c.loop-k.after c.loop-k.chain c.push.new.self d (omega arith) w none is end
+    let read = walk_ends bytes q c.loop-k.k c.loop-k.index c.loop-k.after c.loop-k.chain c.push.new.self d (omega
+    arith) w none is end
     c.push.ensures.head parts in
     record { read = rw read (refl, refl); inside = read_inside bytes q c.push.new.self read }
 
@@ -49,7 +50,8 @@ loop-k-preserved c =
     let is = link_is bytes q c.loop-k.k c.loop-k.index c.loop-k.after c.loop-k.chain d w answer.1 in
     let more : has_next d ≡ true = sym c.has_next.ensures ∙ c.if-not-has_next.false in
     let parts = c.push.ensures.parts ∙ push_part c.loop-k.chain.parts d c.is_writable.result c.is_writable.ensures in
-    let next = walk_goes_on bytes q c.loop-k.k c.loop-k.index c.loop-k.after c.loop-k.chain c.push.new.self d w none is more
+    let next = walk_goes_on bytes q c.loop-k.k c.loop-k.index c.loop-k.after c.loop-k.chain c.push.new.self d w none is
+    more
     c.push.ensures.head parts in
     record {
       index_is = c.from-index.ensures ∙ next.index_is;

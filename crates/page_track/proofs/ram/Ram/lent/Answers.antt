@@ -17,7 +17,8 @@ returns c =
         refl,
         λ w.
             ap (λ (bytes : List ℕ). let memory : Memory = record { bytes = bytes } in memory)
-            (ap (λ (k : ℕ). take k (refill items at w ++ drop (length (refill items at w)) items)) c.self.inside.bytes.ok.0
+            (ap (λ (k : ℕ). take k (refill items at w ++ drop (length (refill items at w)) items))
+            c.self.inside.bytes.ok.0
             ∙ refilled items (drop (length (refill items at w)) items) (place_of address) at w place)
             ∙ ap (λ (m : Memory). with_lent m address w) c.self.view_is,
       ),

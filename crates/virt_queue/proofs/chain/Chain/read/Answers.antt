@@ -7,13 +7,15 @@ loop-k-init c = read_begins c.args.ram.now.bytes c.args.self.now.parts c.args.fr
 
 pub loop-k-preserved-then-part : goal.loop-k-preserved-then-part
 loop-k-preserved-then-part c =
-    read_other c.args.ram.now.bytes c.args.self.now.parts c.args.from c.args.into.now c.loop-k.k c.loop-k.skip c.loop-k.filled
+    read_other c.args.ram.now.bytes c.args.self.now.parts c.args.from c.args.into.now c.loop-k.k c.loop-k.skip
+    c.loop-k.filled
     c.loop-k.into c.at-part.result c.loop-k.invariant c.at-part.ensures c.if-part.true
 
 pub loop-k-preserved-then-len-skip : goal.loop-k-preserved-then-len-skip
 loop-k-preserved-then-len-skip c =
     let past : c.at-part.result.len ≤ c.loop-k.skip = omega arith in
-    let next = read_past c.args.ram.now.bytes c.args.self.now.parts c.args.from c.args.into.now c.loop-k.k c.loop-k.skip c.loop-k.filled
+    let next = read_past c.args.ram.now.bytes c.args.self.now.parts c.args.from c.args.into.now c.loop-k.k
+    c.loop-k.skip c.loop-k.filled
     c.loop-k.into c.at-part.result c.requires c.loop-k.invariant c.at-part.ensures c.if-part.false past in
     rw c.from-len.ensures next
 
@@ -55,23 +57,28 @@ loop-k-preserved c =
     let le : c.loop-k.skip + c.min-count.result ≤ p.len = omega (arith, c.min-count.ensures, c.from-len.ensures) in
     let within = inside_within (length bytes) p.addr p.len c.loop-k.skip c.min-count.result in_memory lt le in
     let some = found bytes (p.addr + c.loop-k.skip) c.min-count.result _ c.part.ensures within in
-    let count = c.min-count.ensures ∙ ap (λ (n : ℕ). min (n - c.loop-k.skip) (length c.loop-k.into - c.loop-k.filled)) c.from-len.ensures in
+    let count = c.min-count.ensures
+    ∙ ap (λ (n : ℕ). min (n - c.loop-k.skip) (length c.loop-k.into - c.loop-k.filled)) c.from-len.ensures in
     let part = copied_is c.part.result c.unwrap-bytes.result _ some c.unwrap-bytes.ensures in
     let width : c.loop-k.filled + c.min-count.result - c.loop-k.filled ≡ c.min-count.result = omega arith in
     let after = ap (λ (n : ℕ). take c.loop-k.filled c.loop-k.into
     ++ (c.copy_from_slice.new.self ++ drop n (drop c.loop-k.filled c.loop-k.into))) width in
-    read_here bytes c.args.self.now.parts c.args.from c.args.into.now c.loop-k.k c.loop-k.skip c.loop-k.filled c.loop-k.into p
-    c.min-count.result c.copy_from_slice.new.self _ c.requires c.loop-k.invariant c.at-part.ensures c.if-part.false lt count
+    read_here bytes c.args.self.now.parts c.args.from c.args.into.now c.loop-k.k c.loop-k.skip c.loop-k.filled
+    c.loop-k.into p
+    c.min-count.result c.copy_from_slice.new.self _ c.requires c.loop-k.invariant c.at-part.ensures c.if-part.false lt
+    count
     (c.copy_from_slice.ensures.after ∙ part) after
 
 pub returns-clause-count : goal.returns-clause-count
 returns-clause-count c =
     let end : length c.args.self.now.parts ≤ c.loop-k.k = omega arith in
-    read_count c.args.ram.now.bytes c.args.self.now.parts c.args.from c.args.into.now c.loop-k.k c.loop-k.skip c.loop-k.filled c.loop-k.into
+    read_count c.args.ram.now.bytes c.args.self.now.parts c.args.from c.args.into.now c.loop-k.k c.loop-k.skip
+    c.loop-k.filled c.loop-k.into
     c.loop-k.invariant end
 
 pub returns-clause-bytes : goal.returns-clause-bytes
 returns-clause-bytes c =
     let end : length c.args.self.now.parts ≤ c.loop-k.k = omega arith in
-    read_whole c.args.ram.now.bytes c.args.self.now.parts c.args.from c.args.into.now c.loop-k.k c.loop-k.skip c.loop-k.filled c.loop-k.into
+    read_whole c.args.ram.now.bytes c.args.self.now.parts c.args.from c.args.into.now c.loop-k.k c.loop-k.skip
+    c.loop-k.filled c.loop-k.into
     c.loop-k.invariant end

@@ -22,7 +22,8 @@ pub loop-k-preserved : goal.loop-k-preserved
 loop-k-preserved c =
     let p = c.at-part.result in
     let small : p.len < 2 ^ 32 = search rules in
-    let next = sum_with c.args.writable c.args.self.now.parts c.loop-k.k c.loop-k.total p c.loop-k.invariant c.at-part.ensures
+    let next = sum_with c.args.writable c.args.self.now.parts c.loop-k.k c.loop-k.total p c.loop-k.invariant
+    c.at-part.ensures
     (kind_same c.args.writable p c.if-part-writable.false) small in
     rw c.from-total.ensures next
 
