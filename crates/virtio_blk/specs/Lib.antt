@@ -1,1 +1,4 @@
 pub mod Disk
+pub mod Lending
+pub mod Request
+pub mod Serve

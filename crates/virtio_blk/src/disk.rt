@@ -4,7 +4,8 @@ ghost use Rattle.std.specs.Prelude.{◌≡◌, ◌<◌, Some, length, slice_get}
 
 /// Sectors of 512 bytes, counted from 0.
 ///
-/// Contracts see its ghost member `state`, whose `mine` is the list of the sectors. No call changes how many there are.
+/// Contracts see its ghost member `state`, whose `mine` is the list of the sectors. No call changes
+/// how many there are.
 pub trait Disk {
     ghost use Rattle.virtio_blk.specs.Disk.{DiskState, with_sector};
 
