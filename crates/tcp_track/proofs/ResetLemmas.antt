@@ -75,7 +75,17 @@ reset_says t said s l on r e h =
     let same = says_same t said s l l h (not_opening t l.opening s (rst_opens_not s r)) refl refl refl in
     record {
       opening = same.opening;
-      reset = λ o p q. record { before = said; carrier = s; later = []; own = o.own; place = refl; on = on; opened = h.opening ∙ p; resets = r; no_refusal = e };
+      reset = λ o p q. record {
+        before = said;
+        carrier = s;
+        later = [];
+        own = o.own;
+        place = refl;
+        on = on;
+        opened = h.opening ∙ p;
+        resets = r;
+        no_refusal = e;
+      };
       refused = same.refused;
     }
 

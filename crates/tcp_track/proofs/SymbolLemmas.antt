@@ -154,7 +154,16 @@ opened_fits t said s l on same opens = record { opened = opened; stands = at }
         (opening_of t said) (and_from (same_tuple (tuple_of s) t) (may_open s) same opens)
 
     first : (x : Symbol) → Some syn ≡ Some x → Stands (said ++ s ∷ []) t (opening_in s).client 0 x
-    first x f = record { before = said; carrier = s; later = []; own = s.seq; place = refl; on = on; opened = opened; carries = syn_there s opens ∙ f }
+    first x f = record {
+      before = said;
+      carrier = s;
+      later = [];
+      own = s.seq;
+      place = refl;
+      on = on;
+      opened = opened;
+      carries = syn_there s opens ∙ f;
+    }
 
     at : (k : ℕ) (x : Symbol) → slice_get (opened_line l s).symbols k ≡ Some x →
         Stands (said ++ s ∷ []) t (opening_in s).client k x

@@ -232,7 +232,17 @@ grown_symbols l kept own s h opened r g =
 
 pub tied_none : Tied no_line no_fields
 tied_none = record {
-  is_kept = record { opening = refl; base = refl; symbols = refl; acked = refl; window = refl; mss = refl; mac = refl; reset = refl; refused = refl };
+  is_kept = record {
+    opening = refl;
+    base = refl;
+    symbols = refl;
+    acked = refl;
+    window = refl;
+    mss = refl;
+    mac = refl;
+    reset = refl;
+    refused = refl;
+  };
   low = omega arith;
   end = λ e. absurd (true≢false (sym e));
   ended = refl;
@@ -244,7 +254,17 @@ tied_none = record {
 tied_opened : (l : Line) (kept : LineFields) (s : TcpFields) → Tied l kept →
     Tied (opened_line l s) (fields_opened kept s)
 tied_opened l kept s h = record {
-  is_kept = record { opening = refl; base = refl; symbols = refl; acked = refl; window = refl; mss = refl; mac = refl; reset = refl; refused = h.is_kept.refused };
+  is_kept = record {
+    opening = refl;
+    base = refl;
+    symbols = refl;
+    acked = refl;
+    window = refl;
+    mss = refl;
+    mac = refl;
+    reset = refl;
+    refused = h.is_kept.refused;
+  };
   low = omega arith;
   end = λ _. refl;
   ended = refl;

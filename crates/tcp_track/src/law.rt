@@ -1,4 +1,5 @@
-//! What holds of a tracker over all its calls. The functions do nothing: their contracts are what is proved.
+//! What holds of a tracker over all its calls. The functions do nothing: their contracts are what
+//! is proved.
 
 ghost use Rattle.tcp_track.specs.Laws.{KeepsLines, KeepsOrder, AnswersRightly, HasCurrentOpening, SymbolsStand, AckedWasSent, ResetsStand, RefusalsStand};
 

@@ -184,7 +184,8 @@ impl Line {
     fn grow(&mut self, opening: Opening, segment: &TcpView) -> Result<(), NoMemory>
         requires opened { self.old.opening ≡ Some opening }
         requires grows { grows self.old opening.own segment.now ≡ true }
-        ensures ok { OnOk result (self.new ≡ grown self.old (start_of opening.own segment.now) segment.now) }
+        ensures ok { OnOk result (self.new
+            ≡ grown self.old (start_of opening.own segment.now) segment.now) }
         ensures err { OnErr result (self.new ≡ self.old) }
     {
         let known = (self.bytes_end() - distance(opening.own, segment.seq())) as usize;
@@ -304,7 +305,8 @@ fn same_opening(current: Option<Opening>, opening: Opening) -> bool
 #[tactic(auto, unfolding(crate::specs::Segments::is_near))]
 pub(crate) fn is_near(own: u32, segment: &TcpView) -> bool
     ensures value { result ≡ is_near own segment.now }
-    ensures within { result ≡ true → start_of own segment.now + length (payload_symbols segment.now) < OFFSET_BOUND }
+    ensures within { result ≡ true
+        → start_of own segment.now + length (payload_symbols segment.now) < OFFSET_BOUND }
 {
     let start = distance(own, segment.seq());
     start < OFFSET_BOUND && symbol_count(segment) < OFFSET_BOUND - start

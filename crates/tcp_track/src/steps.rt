@@ -20,7 +20,8 @@ use indexmap::{IndexMap, IndexSet};
 use inet_frame::{TcpView, Tuple};
 
 pub(crate) fn is_at_commit(entry: Option<&Entry>, client: u32) -> bool
-    ensures { result ≡ is_of_client (unwrap_or (option_copied entry.entry) no_entry).at_commit client }
+    ensures { result
+        ≡ is_of_client (unwrap_or (option_copied entry.entry) no_entry).at_commit client }
 {
     match entry {
         None => false,
@@ -45,7 +46,8 @@ pub(crate) fn take_entry(
     tuple: Tuple,
     segment: &TcpView,
 ) -> Result<(), NoMemory>
-    ensures ok { OnOk result (table.new.entries ≡ entries_after table.old.entries tuple segment.now) }
+    ensures ok { OnOk result (table.new.entries
+        ≡ entries_after table.old.entries tuple segment.now) }
     ensures err { OnErr result (table.new.entries ≡ table.old.entries) }
 {
     match table.get_mut(&tuple) {
@@ -69,7 +71,8 @@ pub(crate) fn add_entry(
     line: Line,
 ) -> Result<(), NoMemory>
     requires { entry_of table.old.entries tuple ≡ None }
-    ensures ok { OnOk result (table.new.entries ≡ table.old.entries ++ (tuple, record { line = line; at_commit = None }) ∷ []) }
+    ensures ok { OnOk result (table.new.entries
+        ≡ table.old.entries ++ (tuple, record { line = line; at_commit = None }) ∷ []) }
     ensures err { OnErr result (table.new.entries ≡ table.old.entries) }
 {
     let entry = Entry {
@@ -82,7 +85,8 @@ pub(crate) fn add_entry(
 
 /// Trims a tuple's line, where there is one.
 pub(crate) fn trim_entry(table: &mut IndexMap<Tuple, Entry>, tuple: &Tuple, client: u32, to: Offset)
-    ensures { table.new.entries ≡ trim_entry (entry_of table.old.entries tuple.now) table.old.entries tuple.now client to }
+    ensures { table.new.entries
+        ≡ trim_entry (entry_of table.old.entries tuple.now) table.old.entries tuple.now client to }
 {
     let Some(entry) = table.get_mut(tuple) else {
         return;

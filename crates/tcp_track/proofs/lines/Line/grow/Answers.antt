@@ -39,7 +39,8 @@ invariant_of-self-then-known-payload c =
       count,
     )) in
     record {
-      end = growth_fits l own s c.extend.new.self c.has_fin-self-inside.result grows' known len c.has_fin-self-inside.ensures;
+      end = growth_fits l own s c.extend.new.self c.has_fin-self-inside.result grows' known len
+          c.has_fin-self-inside.ensures;
       acked = c.self.invariant.acked;
       no_bytes = λ e. absurd (true≢false (sym opened ∙ e));
       no_fin = λ e. absurd (true≢false (sym opened ∙ e));
