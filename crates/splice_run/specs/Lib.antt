@@ -1,0 +1,4 @@
+pub mod Frames
+pub mod Tokens
+pub mod Single
+pub mod Backwards

@@ -1,0 +1,13 @@
+//! The single run that a log names: the turns that one machine makes again.
+#![tactic(auto)]
+
+mod law;
+mod parts;
+mod seen;
+mod splicing;
+
+pub use law::splices_by_marks;
+pub use splicing::splice;
+
+#[cfg(test)]
+mod tests;
