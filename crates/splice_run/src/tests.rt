@@ -6,19 +6,21 @@ use std::alloc::Global;
 use std::test::Fail;
 
 /// Two echoes of a connection, and a failover before any checkpoint.
-const BEFORE: &[u8] =
-    b"c : 0 - 0 0\nP 1 1 0 0 : 0 0\n> : 1\n> : 2\nS 2 1 0 0 : 0 0\n< : 12 0 0\n< : 13 1 1\n\
+const BEFORE: &[u8] = b"c : 0 - 0 0\nP 1 1 0 0 : 0 0\n> : 1\n> : 2\nS 2 1 0 0 : 0 0\n\
+< : 12 0 0\n< : 13 1 1\n\
 x p : 0\nr : 1\nS 4 0 0 0 : - 1\n";
 
 /// A failover while a checkpoint is under way.
-const WITHIN: &[u8] =
-    b"c : 0 - 0 0\nP 1 1 0 0 : 0 0\n> : 1\n> : 2\nS 2 1 0 0 : 0 0\n< : 12 0 0\n< : 13 1 1\n\
-P 6 0 0 0 : - 0\nS 7 0 0 0 : - 0\n< : 13 2 1\n! q 1 differ\nP 1 0 0 0 : -\n> : 3\n> : 4\n> : 9\n> : 10\nx p : 0\nr : 2\n";
+const WITHIN: &[u8] = b"c : 0 - 0 0\nP 1 1 0 0 : 0 0\n> : 1\n> : 2\nS 2 1 0 0 : 0 0\n\
+< : 12 0 0\n< : 13 1 1\n\
+P 6 0 0 0 : - 0\nS 7 0 0 0 : - 0\n< : 13 2 1\n! q 1 differ\nP 1 0 0 0 : -\n\
+> : 3\n> : 4\n> : 9\n> : 10\nx p : 0\nr : 2\n";
 
 /// A failover after its commit.
-const AFTER: &[u8] =
-    b"c : 0 - 0 0\nP 1 1 0 0 : 0 0\n> : 1\n> : 2\nS 2 1 0 0 : 0 0\n< : 12 0 0\n< : 13 1 1\n\
-P 6 0 0 0 : - 0\nS 7 0 0 0 : - 0\n< : 13 2 1\n! q 1 differ\nP 1 0 0 0 : -\n> : 3\n> : 4\n> : 9\n> : 10\n> : 11\n! k 1\n\
+const AFTER: &[u8] = b"c : 0 - 0 0\nP 1 1 0 0 : 0 0\n> : 1\n> : 2\nS 2 1 0 0 : 0 0\n\
+< : 12 0 0\n< : 13 1 1\n\
+P 6 0 0 0 : - 0\nS 7 0 0 0 : - 0\n< : 13 2 1\n! q 1 differ\nP 1 0 0 0 : -\n\
+> : 3\n> : 4\n> : 9\n> : 10\n> : 11\n! k 1\n\
 x p : 0\nr : 2\n";
 
 /// No stop, a frame with an opening seen, and marks that no pair makes.

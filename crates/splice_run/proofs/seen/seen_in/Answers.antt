@@ -20,7 +20,8 @@ pub loop-end-preserved : goal.loop-end-preserved
 loop-end-preserved c = record {
   within = omega arith;
   said = λ index.
-      seen_step c.args.log.now c.loop-end.end c.index-log-end.result c.client_frame.result index _ _ _ c.loop-end-test.true
+      seen_step c.args.log.now c.loop-end.end c.index-log-end.result c.client_frame.result index _ _ _
+      c.loop-end-test.true
       c.loop-end.invariant.within c.index-log-end.is c.client_frame.ensures (c.in_ok-tell.ensures index)
       (c.loop-end.invariant.said index);
 }
