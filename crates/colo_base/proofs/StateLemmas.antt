@@ -22,17 +22,20 @@ changes_none P s =
     record { observable = refl; fetch_faults = λ name. omega arith; write_faults = λ name. omega arith; others = λ observable name out. refl }
 
 -- two changes in a row
-pub changes_then : (P : List ℕ → Type 0) (a b c : ShelfState) → ChangesOnly P a b → ChangesOnly P b c → ChangesOnly P a c
+pub changes_then : (P : List ℕ → Type 0) (a b c : ShelfState) → ChangesOnly P a b → ChangesOnly P b c →
+    ChangesOnly P a c
 changes_then P a b c first second =
     record {
       observable = second.observable ∙ first.observable;
       fetch_faults = λ name. omega (arith, first.fetch_faults name, second.fetch_faults name);
       write_faults = λ name. omega (arith, first.write_faults name, second.write_faults name);
-      others = λ observable name out. second.others (first.observable ∙ observable) name out ∙ first.others observable name out;
+      others = λ observable name out. second.others (first.observable ∙ observable) name out
+          ∙ first.others observable name out;
     }
 
 -- a change of fewer names
-pub changes_wider : (P Q : List ℕ → Type 0) (a b : ShelfState) → ((name : List ℕ) → P name → Q name) → ChangesOnly P a b → ChangesOnly Q a b
+pub changes_wider : (P Q : List ℕ → Type 0) (a b : ShelfState) → ((name : List ℕ) → P name → Q name) →
+    ChangesOnly P a b → ChangesOnly Q a b
 changes_wider P Q a b wider change =
     record {
       observable = change.observable;
@@ -84,17 +87,24 @@ pub front_less : (xs ys part : List ℕ) → StartsWith xs part → StartsWith (
 front_less xs ys part front = grind (arith, common_steps)
 
 -- what two appends in a row add
-pub adds_then : (a b c : ShelfState) (name xs ys : List ℕ) → b.observable ≡ a.observable → Adds a b name xs → Adds b c name ys → Adds a c name (xs ++ ys)
+pub adds_then : (a b c : ShelfState) (name xs ys : List ℕ) → b.observable ≡ a.observable → Adds a b name xs →
+    Adds b c name ys → Adds a c name (xs ++ ys)
 adds_then a b c name xs ys same first second = λ observable.
     let now : b.contents name ≡ Some (bytes_of a name ++ xs) = first observable in
     let all : c.contents name ≡ Some (bytes_of b name ++ ys) = second (same ∙ observable) in
     all ∙ ap (λ o. Some (unwrap_or o [] ++ ys)) now ∙ ap Some (append_assoc (bytes_of a name) xs ys)
 
 -- an append that was broken off after one that wasn't
-pub adds_then_part : (a b c : ShelfState) (name xs ys : List ℕ) → b.observable ≡ a.observable → Adds a b name xs → AddsPart b c name ys → AddsPart a c name (xs ++ ys)
+pub adds_then_part : (a b c : ShelfState) (name xs ys : List ℕ) → b.observable ≡ a.observable → Adds a b name xs →
+    AddsPart b c name ys → AddsPart a c name (xs ++ ys)
 adds_then_part a b c name xs ys same first second = λ observable.
     let now : b.contents name ≡ Some (bytes_of a name ++ xs) = first observable in
     elim (second (same ∙ observable)) [
       | inl kept ↦ inr (xs, front_append xs ys, kept ∙ now)
-      | inr added ↦ inr (xs ++ added.0, front_more xs ys added.0 added.1, added.2 ∙ ap (λ o. Some (unwrap_or o [] ++ added.0)) now ∙ ap Some (append_assoc (bytes_of a name) xs added.0))
+      | inr added ↦ inr (
+        xs ++ added.0,
+        front_more xs ys added.0 added.1,
+        added.2
+            ∙ ap (λ o. Some (unwrap_or o [] ++ added.0)) now ∙ ap Some (append_assoc (bytes_of a name) xs added.0),
+      )
     ]

@@ -1,5 +1,5 @@
 -- Which calls of an object in memory are to fail.
-use Rattle.std.specs.Prelude.{ℕ, Bool, List, [], ◌==◌}
+use Rattle.std.specs.Prelude.{ℕ, Bool, List, [], ◌∷◌, ◌++◌, ◌==◌}
 use Rattle.std.specs.List.{list_any}
 use Rattle.colo_base.specs.Count.{incremented}
 
@@ -11,6 +11,10 @@ pub record PlanState : Type 0 where
 -- no call is to fail, and none was made
 abbrev pub empty_plan : PlanState
 empty_plan = record { failing = []; made = 0 }
+
+-- the plan once one more call is to fail
+abbrev pub plan_failure : PlanState → ℕ → PlanState
+plan_failure plan call = record plan { failing = plan.failing ++ call ∷ [] }
 
 -- the plan after one more call
 abbrev pub count_call : PlanState → PlanState

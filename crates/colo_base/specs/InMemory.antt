@@ -6,7 +6,7 @@ use Rattle.colo_base.specs.Clock.{ClockState}
 use Rattle.colo_base.specs.Count.{incremented}
 use Rattle.colo_base.specs.FailurePlan.{PlanState}
 use Rattle.colo_base.specs.Incoming.{pass}
-use Rattle.colo_base.specs.Link.{LinkState, Answer, Arrival, bytes, quiet, ended}
+use Rattle.colo_base.specs.Link.{LinkState, Answer, answer, Arrival, bytes, quiet, ended}
 use Rattle.colo_base.specs.Shelf.{ShelfState}
 use Rattle.colo_base.specs.Sink.{SinkState}
 use Rattle.colo_base.specs.declared.memory_link.Reply.{Reply}
@@ -98,7 +98,8 @@ arrival_of given.Ended = ended
 abbrev pub answer_of : Reply → Answer
 answer_of reply = record { room = reply.room; arrival = arrival_of reply.given }
 
--- a link in memory: what is to come, what it answered and sent, the plan of its failing calls, and its counts
+-- a link in memory: what is to come, what it answered and sent, the plan of its failing calls, and
+-- its counts
 pub record LinkParts : Type 0 where
   pub coming : List (List ℕ)
   pub answers : List Answer
@@ -110,7 +111,8 @@ pub record LinkParts : Type 0 where
   pub send_faults : ℕ
   pub quiets : ℕ
 
--- its answers and what it sent can be observed; it keeps one count of failed opens for all addresses
+-- its answers and what it sent can be observed; it keeps one count of failed opens for all
+-- addresses
 abbrev pub link_state : LinkParts → LinkState
 link_state link =
     record {
@@ -124,8 +126,8 @@ link_state link =
       quiets = link.quiets;
     }
 
--- What comes at a receive with so much room: the front of the oldest piece, as many bytes as there is room for; none
--- yet where that piece has no bytes; and the end where no piece is left.
+-- What comes at a receive with so much room: the front of the oldest piece, as many bytes as there
+-- is room for; none yet where that piece has no bytes; and the end where no piece is left.
 abbrev pub arrival_at : List (List ℕ) → ℕ → Arrival
 arrival_at [] room = ended
 arrival_at (piece ∷ pieces) room = if length piece == 0 then quiet else bytes (take room piece)
@@ -151,7 +153,7 @@ abbrev pub receive : LinkParts → ℕ → LinkParts
 receive link room =
     record link {
       coming = coming_after link.coming room;
-      answers = link.answers ++ record { room = room; arrival = arrival_at link.coming room } ∷ [];
+      answers = link.answers ++ answer room (arrival_at link.coming room) ∷ [];
       quiets = quiets_after link.coming link.quiets;
     }
 
@@ -160,8 +162,8 @@ pub record ClockParts : Type 0 where
   pub script : List ℕ
   pub count : ℕ
 
--- The number that it gives at the k-th reading, counted from 0: from the end of its list on the last one, and 0 where
--- the list is empty.
+-- The number that it gives at the k-th reading, counted from 0: from the end of its list on the
+-- last one, and 0 where the list is empty.
 abbrev pub tick_at : List ℕ → ℕ → ℕ
 tick_at script k = slice_index script (min k (length script - 1))
 

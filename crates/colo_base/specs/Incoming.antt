@@ -1,5 +1,5 @@
--- What is to come over a link in memory: pieces of bytes, each still to be taken. A piece without bytes is a quiet
--- answer.
+-- What is to come over a link in memory: pieces of bytes, each still to be taken. A piece without
+-- bytes is a quiet answer.
 use Rattle.std.specs.Prelude.{◌≡◌, ℕ, ◌≤◌, List, [], ◌∷◌, length, drop, if◌then◌else◌, ◌==◌}
 
 -- the pieces still to come, where so many bytes of the first were taken

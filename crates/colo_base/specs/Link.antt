@@ -80,10 +80,14 @@ pub record CountsSend (old new : LinkState) : Type 0 where
 abbrev pub SameAnswers : LinkState → LinkState → Type 0
 SameAnswers old new = IsTrue old.observable → new.answers ≡ old.answers
 
+-- the answer to a receive
+abbrev pub answer : ℕ → Arrival → Answer
+answer room arrival = record { room = room; arrival = arrival }
+
 -- one answer came
 abbrev pub Answers : LinkState → LinkState → ℕ → Arrival → Type 0
 Answers old new room arrival =
-    IsTrue old.observable → new.answers ≡ old.answers ++ record { room = room; arrival = arrival } ∷ []
+    IsTrue old.observable → new.answers ≡ old.answers ++ answer room arrival ∷ []
 
 -- nothing was sent
 abbrev pub SameSent : LinkState → LinkState → Type 0
@@ -98,10 +102,12 @@ abbrev pub SendsPart : LinkState → LinkState → List ℕ → Type 0
 SendsPart old new sent =
     IsTrue old.observable → (part : List ℕ) × StartsWith sent part × (new.sent ≡ old.sent ++ part)
 
--- What a receive answered into a buffer: the bytes taken are the front of what the buffer then has. Only a quiet answer
--- changes a count, that of quiet answers.
+-- What a receive answered into a buffer: the bytes taken are the front of what the buffer then has.
+-- Only a quiet answer changes a count, that of quiet answers.
 abbrev pub Hears : LinkState → LinkState → List ℕ → Heard → Type 0
 Hears old new into (variant.Took n) =
-    (0 < n) × (n ≤ length into) × Answers old new (length into) (bytes (take n into)) × NoneQuiet old new
-Hears old new into variant.Quiet = Increased old.quiets new.quiets × Answers old new (length into) quiet
+    (0 < n) × (n ≤ length into) × Answers old new (length into) (bytes (take n into))
+    × NoneQuiet old new
+Hears old new into variant.Quiet =
+    Increased old.quiets new.quiets × Answers old new (length into) quiet
 Hears old new into variant.Ended = Answers old new (length into) ended × NoneQuiet old new

@@ -17,12 +17,14 @@ pub record ShelfState : Type 0 where
 abbrev pub bytes_of : ShelfState → List ℕ → List ℕ
 bytes_of shelf name = unwrap_or (shelf.contents name) []
 
--- no count falls, whether contents can be observed stays, and only names that P allows have other contents
+-- no count falls, whether contents can be observed stays, and only names that P allows have other
+-- contents
 pub record ChangesOnly (P : List ℕ → Type 0) (old new : ShelfState) : Type 0 where
   pub observable : new.observable ≡ old.observable
   pub fetch_faults : (name : List ℕ) → old.fetch_faults name ≤ new.fetch_faults name
   pub write_faults : (name : List ℕ) → old.write_faults name ≤ new.write_faults name
-  pub others : IsTrue old.observable → (name : List ℕ) → (P name → ⊥) → new.contents name ≡ old.contents name
+  pub others : IsTrue old.observable → (name : List ℕ) → (P name → ⊥)
+      → new.contents name ≡ old.contents name
 
 -- no fetch failed
 abbrev pub NoFetchFailed : ShelfState → ShelfState → Type 0
@@ -48,9 +50,12 @@ EmptiesOrKeeps old new name =
 
 -- the bytes came after those of the name, which was created where it wasn't there
 abbrev pub Adds : ShelfState → ShelfState → List ℕ → List ℕ → Type 0
-Adds old new name bytes = IsTrue old.observable → new.contents name ≡ Some (bytes_of old name ++ bytes)
+Adds old new name bytes =
+    IsTrue old.observable → new.contents name ≡ Some (bytes_of old name ++ bytes)
 
 -- a prefix of the bytes came after those of the name, or the name is as it was
 abbrev pub AddsPart : ShelfState → ShelfState → List ℕ → List ℕ → Type 0
 AddsPart old new name bytes =
-    IsTrue old.observable → (new.contents name ≡ old.contents name) ⊎ ((part : List ℕ) × StartsWith bytes part × (new.contents name ≡ Some (bytes_of old name ++ part)))
+    IsTrue old.observable → (new.contents name ≡ old.contents name)
+    ⊎ ((part : List ℕ) × StartsWith bytes part
+    × (new.contents name ≡ Some (bytes_of old name ++ part)))

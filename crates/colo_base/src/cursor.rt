@@ -39,7 +39,8 @@ impl<'a> Fields<'a> {
         Ok(part[0])
     }
 
-    /// The number of the next two bytes, big-endian. `Short` exactly where fewer remain, and then the cursor stays.
+    /// The number of the next two bytes, big-endian. `Short` exactly where fewer remain, and then
+    /// the cursor stays.
     pub fn u16(&mut self) -> Result<u16, Short>
         ensures value { IfOk result (λ number. number ≡ from_be_bytes w16 (take 2 self.old)) }
         ensures passes { OnOk result (Passes 2 self.old self.new) }
@@ -49,7 +50,8 @@ impl<'a> Fields<'a> {
         Ok(u16::from_be_bytes([part[0], part[1]]))
     }
 
-    /// The number of the next four bytes, big-endian. `Short` exactly where fewer remain, and then the cursor stays.
+    /// The number of the next four bytes, big-endian. `Short` exactly where fewer remain, and then
+    /// the cursor stays.
     pub fn u32(&mut self) -> Result<u32, Short>
         ensures value { IfOk result (λ number. number ≡ from_be_bytes w32 (take 4 self.old)) }
         ensures passes { OnOk result (Passes 4 self.old self.new) }
@@ -59,7 +61,8 @@ impl<'a> Fields<'a> {
         Ok(u32::from_be_bytes([part[0], part[1], part[2], part[3]]))
     }
 
-    /// The number of the next eight bytes, big-endian. `Short` exactly where fewer remain, and then the cursor stays.
+    /// The number of the next eight bytes, big-endian. `Short` exactly where fewer remain, and then
+    /// the cursor stays.
     pub fn u64(&mut self) -> Result<u64, Short>
         ensures value { IfOk result (λ number. number ≡ from_be_bytes w64 (take 8 self.old)) }
         ensures passes { OnOk result (Passes 8 self.old self.new) }

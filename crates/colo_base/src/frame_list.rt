@@ -41,7 +41,8 @@ impl Frames {
         self.add(copy)
     }
 
-    /// Adds `frame` at the end, without a copy. After `NoMemory` the list is as it was, and the frame is lost.
+    /// Adds `frame` at the end, without a copy. After `NoMemory` the list is as it was, and the
+    /// frame is lost.
     pub fn add(&mut self, frame: Vec<u8>) -> Result<(), NoMemory>
         ensures ok { OnOk result (self.new ≡ self.old ++ frame.items ∷ []) }
         ensures err { OnErr result (self.new ≡ self.old) }

@@ -1,4 +1,5 @@
-//! What every crate of the pair shares: the plain errors, a list of frames, a cursor over bytes, and the outside.
+//! What every crate of the pair shares: the plain errors, a list of frames, a cursor over bytes,
+//! and the outside.
 #![tactic(auto)]
 
 mod cursor;

@@ -2,7 +2,7 @@
 
 ghost use Rattle.std.specs.Prelude.{◌≡◌, ◌<◌, ◌≤◌, ◌↔◌, [], ◌∷◌, ◌++◌, true, false, IsTrue, IsErr, OnOk, OnErr, IfOk, length};
 ghost use Rattle.colo_base.specs.Count.{incremented};
-ghost use Rattle.colo_base.specs.FailurePlan.{empty_plan, count_call, is_next_failing};
+ghost use Rattle.colo_base.specs.FailurePlan.{empty_plan, plan_failure, count_call, is_next_failing};
 ghost use Rattle.colo_base.specs.InMemory.{heard_of, link_state, receive};
 ghost use Rattle.colo_base.specs.Link.{Hears, LinkGoesOn};
 
@@ -27,7 +27,8 @@ struct Reply {
     given: Given,
 }
 
-/// A connection over a list of pieces and quiet answers that are to come. It keeps its answers and what it sends.
+/// A connection over a list of pieces and quiet answers that are to come. It keeps its answers and
+/// what it sends.
 #[derive(Drop)]
 pub struct MemoryLink {
     coming: Incoming,
@@ -86,11 +87,12 @@ impl MemoryLink {
         }
     }
 
-    /// Adds a piece of at least one byte that is to come. One receive takes as many bytes of the oldest piece as there is
-    /// room for, and of no other. After `NoMemory` the link is as it was.
+    /// Adds a piece of at least one byte that is to come. One receive takes as many bytes of the
+    /// oldest piece as there is room for, and of no other. After `NoMemory` the link is as it was.
     pub fn piece(&mut self, bytes: &[u8]) -> Result<(), NoMemory>
         requires { 0 < length bytes.now }
-        ensures ok { OnOk result (self.new ≡ record self.old { coming = self.old.coming ++ bytes.now ∷ [] }) }
+        ensures ok { OnOk result (self.new
+            ≡ record self.old { coming = self.old.coming ++ bytes.now ∷ [] }) }
         ensures err { OnErr result (self.new ≡ self.old) }
     {
         self.coming.add(bytes)
@@ -98,7 +100,8 @@ impl MemoryLink {
 
     /// Adds one quiet answer that is to come. After `NoMemory` the link is as it was.
     pub fn quiet(&mut self) -> Result<(), NoMemory>
-        ensures ok { OnOk result (self.new ≡ record self.old { coming = self.old.coming ++ [] ∷ [] }) }
+        ensures ok { OnOk result (self.new
+            ≡ record self.old { coming = self.old.coming ++ [] ∷ [] }) }
         ensures err { OnErr result (self.new ≡ self.old) }
     {
         self.coming.add(&[])
@@ -111,21 +114,23 @@ impl MemoryLink {
         self.sent.as_slice()
     }
 
-    /// The call of the trait with this number fails, and does nothing. The first is 1. After `NoMemory` the link is as
-    /// it was.
+    /// The call of the trait with this number fails, and does nothing. The first is 1. After
+    /// `NoMemory` the link is as it was.
     pub fn fail(&mut self, call: u64) -> Result<(), NoMemory>
         ensures ok { OnOk result (self.new
-            ≡ record self.old { plan = record self.old.plan { failing = self.old.plan.failing ++ call ∷ [] } }) }
+            ≡ record self.old { plan = plan_failure self.old.plan call }) }
         ensures err { OnErr result (self.new ≡ self.old) }
     {
         self.plan.fail(call)
     }
 
-    /// Takes the next that is to come, and keeps the answer first. After `NoMemory` the link is as it was.
+    /// Takes the next that is to come, and keeps the answer first. After `NoMemory` the link is as
+    /// it was.
     fn hear(&mut self, into: &mut [u8]) -> Result<Heard, NoMemory>
         requires { 0 < length into.old }
         ensures heard { IfOk result (λ heard. heard ≡ heard_of self.old.coming (length into.old)) }
-        ensures hears { IfOk result (λ heard. Hears (link_state self.old) (link_state self.new) into.new heard) }
+        ensures hears { IfOk result (λ heard. Hears (link_state self.old)
+            (link_state self.new) into.new heard) }
         ensures ok { OnOk result (self.new ≡ receive self.old (length into.old)) }
         ensures quiets { self.old.quiets ≤ self.new.quiets }
         ensures err { OnErr result (self.new ≡ self.old) }
@@ -168,9 +173,13 @@ impl Link for MemoryLink {
     /// Opens the link, at whatever address. `Failed` exactly where the call was to fail.
     fn open(&mut self, _address: &str) -> Result<(), Failed>
         ensures planned { IsErr result ↔ IsTrue (is_next_failing self.old.plan) }
-        ensures ok { OnOk result (self.new ≡ record self.old { opened = true; plan = count_call self.old.plan }) }
+        ensures ok { OnOk result (self.new
+            ≡ record self.old { opened = true; plan = count_call self.old.plan }) }
         ensures err { OnErr result (self.new
-            ≡ record self.old { plan = count_call self.old.plan; open_faults = incremented self.old.open_faults }) }
+            ≡ record self.old {
+              plan = count_call self.old.plan;
+              open_faults = incremented self.old.open_faults;
+            }) }
         ensures goes_on { LinkGoesOn (link_state self.old) (link_state self.new) }
     {
         if self.plan.count_call() {
@@ -181,18 +190,22 @@ impl Link for MemoryLink {
         Ok(())
     }
 
-    /// Takes the next that is to come: `Ended` exactly where nothing is. A call that was to fail is `Failed`, as is one
-    /// for which there is no memory; they take nothing.
+    /// Takes the next that is to come: `Ended` exactly where nothing is. A call that was to fail is
+    /// `Failed`, as is one for which there is no memory; they take nothing.
     fn receive(&mut self, into: &mut [u8]) -> Result<Heard, Failed>
         requires opened { IsTrue self.old.opened }
         requires room { 0 < length into.old }
         ensures planned { IsTrue (is_next_failing self.old.plan) → IsErr result }
         ensures heard { IfOk result (λ heard. heard ≡ heard_of self.old.coming (length into.old)) }
-        ensures hears { IfOk result (λ heard. Hears (link_state self.old) (link_state self.new) into.new heard) }
+        ensures hears { IfOk result (λ heard. Hears (link_state self.old)
+            (link_state self.new) into.new heard) }
         ensures ok { OnOk result (self.new
             ≡ record (receive self.old (length into.old)) { plan = count_call self.old.plan }) }
         ensures err { OnErr result (self.new
-            ≡ record self.old { plan = count_call self.old.plan; receive_faults = incremented self.old.receive_faults }) }
+            ≡ record self.old {
+              plan = count_call self.old.plan;
+              receive_faults = incremented self.old.receive_faults;
+            }) }
         ensures goes_on { LinkGoesOn (link_state self.old) (link_state self.new) }
     {
         if !self.plan.count_call() {
@@ -204,14 +217,21 @@ impl Link for MemoryLink {
         Err(Failed)
     }
 
-    /// Keeps the bytes. A call that was to fail is `Failed`, as is one for which there is no memory; they keep nothing.
+    /// Keeps the bytes. A call that was to fail is `Failed`, as is one for which there is no
+    /// memory; they keep nothing.
     fn send(&mut self, bytes: &[u8]) -> Result<(), Failed>
         requires { IsTrue self.old.opened }
         ensures planned { IsTrue (is_next_failing self.old.plan) → IsErr result }
         ensures ok { OnOk result (self.new
-            ≡ record self.old { sent = self.old.sent ++ bytes.now; plan = count_call self.old.plan }) }
+            ≡ record self.old {
+              sent = self.old.sent ++ bytes.now;
+              plan = count_call self.old.plan;
+            }) }
         ensures err { OnErr result (self.new
-            ≡ record self.old { plan = count_call self.old.plan; send_faults = incremented self.old.send_faults }) }
+            ≡ record self.old {
+              plan = count_call self.old.plan;
+              send_faults = incremented self.old.send_faults;
+            }) }
         ensures goes_on { LinkGoesOn (link_state self.old) (link_state self.new) }
     {
         if !self.plan.count_call() && self.sent.extend_from_slice(bytes).is_ok() {

@@ -2,7 +2,7 @@
 
 ghost use Rattle.std.specs.Prelude.{◌≡◌, ◌↔◌, ◌⊎◌, List, [], ◌∷◌, ◌++◌, ℕ, None, Some, unwrap_or, IsSomeAnd, IsTrue, IsErrOf, OnOk, OnErr};
 ghost use Rattle.std.specs.Option.{option_copied};
-ghost use Rattle.colo_base.specs.FailurePlan.{empty_plan, count_call, is_next_failing};
+ghost use Rattle.colo_base.specs.FailurePlan.{empty_plan, plan_failure, count_call, is_next_failing};
 ghost use Rattle.colo_base.specs.Shelf.{ChangesOnly};
 ghost use Rattle.colo_base.specs.InMemory.{contents_of, counts_of, count_failed_fetch, count_failed_write, fetch_counts, write_counts, plan_of, shelf_state, SetsContents, IsSame};
 
@@ -35,7 +35,8 @@ impl MemoryShelf {
         }
     }
 
-    /// Makes `bytes` the contents of `name`. It counts as no call. After `NoMemory` the shelf is as it was.
+    /// Makes `bytes` the contents of `name`. It counts as no call. After `NoMemory` the shelf is as
+    /// it was.
     #[tactic(auto, using(std::proofs::lemmas::Map::Text::text_keys))]
     pub fn set(&mut self, name: &str, bytes: &[u8]) -> Result<(), NoMemory>
         ensures ok { OnOk result (SetsContents self.old self.new name.now bytes.now) }
@@ -56,12 +57,12 @@ impl MemoryShelf {
         Some(bytes.as_slice())
     }
 
-    /// The call of the trait with this number fails, and does nothing. The first is 1. After `NoMemory` the shelf is as
-    /// it was.
+    /// The call of the trait with this number fails, and does nothing. The first is 1. After
+    /// `NoMemory` the shelf is as it was.
     pub fn fail(&mut self, call: u64) -> Result<(), NoMemory>
         ensures files { (name : List ℕ) → contents_of self.new name ≡ contents_of self.old name }
         ensures ok { OnOk result (plan_of self.new
-            ≡ record (plan_of self.old) { failing = (plan_of self.old).failing ++ call ∷ [] }) }
+            ≡ plan_failure (plan_of self.old) call) }
         ensures counts { counts_of self.new ≡ counts_of self.old }
         ensures err { OnErr result (IsSame self.old self.new) }
     {
@@ -99,7 +100,8 @@ impl Shelf for MemoryShelf {
     /// Copies the contents. `Failed` exactly where the call was to fail, or there is no such file.
     fn fetch(&mut self, name: &str, into: &mut Vec<u8>) -> Result<(), ShelfFault>
         ensures failed { IsErrOf result ShelfFault.Failed
-            ↔ (IsTrue (is_next_failing (plan_of self.old)) ⊎ (contents_of self.old name.now ≡ None)) }
+            ↔ (IsTrue (is_next_failing (plan_of self.old))
+            ⊎ (contents_of self.old name.now ≡ None)) }
         ensures bytes { OnOk result (IsSomeAnd (contents_of self.old name.now)
             (λ bytes. into.new.items ≡ into.old.items ++ bytes)) }
         ensures err { OnErr result (into.new.items ≡ into.old.items) }
@@ -122,10 +124,12 @@ impl Shelf for MemoryShelf {
     /// Empties the file. `Failed` exactly where the call was to fail.
     #[tactic(auto, using(std::proofs::lemmas::Map::Text::text_keys))]
     fn create(&mut self, name: &str) -> Result<(), ShelfFault>
-        ensures failed { IsErrOf result ShelfFault.Failed ↔ IsTrue (is_next_failing (plan_of self.old)) }
+        ensures failed { IsErrOf result ShelfFault.Failed
+            ↔ IsTrue (is_next_failing (plan_of self.old)) }
         ensures ok { OnOk result (contents_of self.new name.now ≡ Some []) }
         ensures err { OnErr result (contents_of self.new name.now ≡ contents_of self.old name.now) }
-        ensures only { ChangesOnly (λ other. other ≡ name.now) (shelf_state self.old) (shelf_state self.new) }
+        ensures only { ChangesOnly (λ other. other ≡ name.now)
+            (shelf_state self.old) (shelf_state self.new) }
         ensures plan { plan_of self.new ≡ count_call (plan_of self.old) }
         ensures counts { counts_of self.new ≡ write_counts result (counts_of self.old) }
     {
@@ -141,11 +145,13 @@ impl Shelf for MemoryShelf {
     /// Adds the bytes. `Failed` exactly where the call was to fail.
     #[tactic(auto, using(std::proofs::lemmas::Map::Text::text_keys))]
     fn append(&mut self, name: &str, bytes: &[u8]) -> Result<(), ShelfFault>
-        ensures failed { IsErrOf result ShelfFault.Failed ↔ IsTrue (is_next_failing (plan_of self.old)) }
+        ensures failed { IsErrOf result ShelfFault.Failed
+            ↔ IsTrue (is_next_failing (plan_of self.old)) }
         ensures ok { OnOk result (contents_of self.new name.now
             ≡ Some (unwrap_or (contents_of self.old name.now) [] ++ bytes.now)) }
         ensures err { OnErr result (contents_of self.new name.now ≡ contents_of self.old name.now) }
-        ensures only { ChangesOnly (λ other. other ≡ name.now) (shelf_state self.old) (shelf_state self.new) }
+        ensures only { ChangesOnly (λ other. other ≡ name.now)
+            (shelf_state self.old) (shelf_state self.new) }
         ensures plan { plan_of self.new ≡ count_call (plan_of self.old) }
         ensures counts { counts_of self.new ≡ write_counts result (counts_of self.old) }
     {

@@ -2,7 +2,7 @@
 
 ghost use Rattle.std.specs.Prelude.{◌≡◌, [], ◌∷◌, ◌++◌, IsTrue, IsErr, OnOk, OnErr};
 ghost use Rattle.colo_base.specs.Count.{incremented};
-ghost use Rattle.colo_base.specs.FailurePlan.{empty_plan, count_call, is_next_failing};
+ghost use Rattle.colo_base.specs.FailurePlan.{empty_plan, plan_failure, count_call, is_next_failing};
 ghost use Rattle.colo_base.specs.InMemory.{sink_state};
 ghost use Rattle.colo_base.specs.Sink.{SinkGoesOn};
 
@@ -49,7 +49,7 @@ impl MemorySink {
     /// The put with this number fails, and puts nothing. The first is 1.
     pub fn fail(&mut self, call: u64) -> Result<(), NoMemory>
         ensures ok { OnOk result (self.new
-            ≡ record self.old { plan = record self.old.plan { failing = self.old.plan.failing ++ call ∷ [] } }) }
+            ≡ record self.old { plan = plan_failure self.old.plan call }) }
         ensures err { OnErr result (self.new ≡ self.old) }
     {
         self.plan.fail(call)
@@ -61,13 +61,20 @@ impl Sink for MemorySink {
 
     ghost state = { sink_state };
 
-    /// Keeps the bytes. A put that was to fail is `Failed`, as is one for which there is no memory; they keep nothing.
+    /// Keeps the bytes. A put that was to fail is `Failed`, as is one for which there is no memory;
+    /// they keep nothing.
     fn put(&mut self, bytes: &[u8]) -> Result<(), Failed>
         ensures planned { IsTrue (is_next_failing self.old.plan) → IsErr result }
         ensures ok { OnOk result (self.new
-            ≡ record self.old { bytes = self.old.bytes ++ bytes.now; plan = count_call self.old.plan }) }
+            ≡ record self.old {
+              bytes = self.old.bytes ++ bytes.now;
+              plan = count_call self.old.plan;
+            }) }
         ensures err { OnErr result (self.new
-            ≡ record self.old { plan = count_call self.old.plan; faults = incremented self.old.faults }) }
+            ≡ record self.old {
+              plan = count_call self.old.plan;
+              faults = incremented self.old.faults;
+            }) }
         ensures goes_on { SinkGoesOn (sink_state self.old) (sink_state self.new) }
     {
         if !self.plan.count_call() && self.bytes.extend_from_slice(bytes).is_ok() {

@@ -1,5 +1,6 @@
-//! The real outside: files and standard output. What is here is trusted to do what the system calls say. Its failures are
-//! shown by counts alone, one of each kind for all names, and no contents can be observed.
+//! The real outside: files and standard output. What is here is trusted to do what the system calls
+//! say. Its failures are shown by counts alone, one of each kind for all names, and no contents can
+//! be observed.
 
 ghost use Rattle.std.specs.Prelude.{◌≡◌, ◌↔◌};
 ghost use Rattle.std.specs.Io.{StartsWith};
@@ -15,7 +16,8 @@ use std::rt::Files;
 /// The greatest file that is fetched, in bytes.
 const FILE_LIMIT: usize = 1_073_741_824;
 
-/// The files of the system. A contract sees how many calls failed, one count of a kind for all names.
+/// The files of the system. A contract sees how many calls failed, one count of a kind for all
+/// names.
 #[derive(Drop)]
 pub struct FileShelf<'a, R: Files> {
     files: &'a R,
@@ -106,7 +108,8 @@ impl<'a, R: Files> Shelf for FileShelf<'a, R> {
         Err(fault_of(&error))
     }
 
-    /// Adds the bytes at the end of the file, or creates it. A write that takes nothing is `Failed`.
+    /// Adds the bytes at the end of the file, or creates it. A write that takes nothing is
+    /// `Failed`.
     fn append(&mut self, name: &str, bytes: &[u8]) -> Result<(), ShelfFault> {
         let Err(error) = append_file(self.files, name, bytes) else {
             return Ok(());

@@ -1,4 +1,5 @@
-//! What no clause says: that calls succeed where there is memory, and what the real files and standard output do.
+//! What no clause says: that calls succeed where there is memory, and what the real files and
+//! standard output do.
 
 use crate::{
     FileShelf, Frames, Heard, Link, MemoryLink, MemoryShelf, MemorySink, OutSink, Shelf,

@@ -1,12 +1,13 @@
-//! The outside: files, a connection, a text that is written and a clock, each as a trait whose clauses say what its
-//! calls mean.
+//! The outside: files, a connection, a text that is written and a clock, each as a trait whose
+//! clauses say what its calls mean.
 //!
-//! What an object means at one moment is its ghost member `state`. Whether its contents can be observed never changes,
-//! and they are pinned only where they can: a real file may be changed by others, a file in memory is not.
+//! What an object means at one moment is its ghost member `state`. Whether its contents can be
+//! observed never changes, and they are pinned only where they can: a real file may be changed by
+//! others, a file in memory is not.
 //!
-//! A call that fails increments a count of that kind of call. A call that answers `Ok` changes no count, and no call
-//! changes a count of another kind. No count falls, and each ends at 2^64 - 1, where every failing call counts as
-//! having incremented it.
+//! A call that fails increments a count of that kind of call. A call that answers `Ok` changes no
+//! count, and no call changes a count of another kind. No count falls, and each ends at 2^64 - 1,
+//! where every failing call counts as having incremented it.
 
 ghost use Rattle.std.specs.Prelude.{◌≡◌, ◌<◌, IsTrue, IsErr, IsErrOf, OnOk, OnErr, IfOk, length};
 ghost use Rattle.std.specs.Io.{StartsWith};
@@ -18,7 +19,8 @@ use std::alloc::{AllocError, AllocFailed};
 /// Why a call on a shelf did not do what it was asked.
 #[derive(Clone, Copy, Debug, PartialEq, Eq)]
 pub enum ShelfFault {
-    /// The file is missing, or reading or writing it failed. The count of such calls for its name increased.
+    /// The file is missing, or reading or writing it failed. The count of such calls for its name
+    /// increased.
     Failed,
     /// An allocation was refused.
     NoMemory,
@@ -59,8 +61,9 @@ pub enum Heard {
 
 /// Files by name, each a string of bytes.
 ///
-/// A shelf means the contents of each name, where they can be observed, and for each name how many fetches and how many
-/// creates and appends failed. A call leaves every other name's contents alone.
+/// A shelf means the contents of each name, where they can be observed, and for each name how many
+/// fetches and how many creates and appends failed. A call leaves every other name's contents
+/// alone.
 pub trait Shelf {
     ghost use Rattle.colo_base.specs.Shelf.{ShelfState, ChangesOnly, NoFetchFailed, NoWriteFailed, Fetches, Empties, EmptiesOrKeeps, Adds, AddsPart};
 
@@ -70,11 +73,13 @@ pub trait Shelf {
     ///
     /// A missing file is `Failed`. Whatever the answer, `into` begins with what it held.
     fn fetch(&mut self, name: &str, into: &mut Vec<u8>) -> Result<(), ShelfFault>
-        ensures bytes { OnOk result (Fetches (state self.old) name.now into.old.items into.new.items) }
+        ensures bytes { OnOk result
+            (Fetches (state self.old) name.now into.old.items into.new.items) }
         ensures front { StartsWith into.new.items into.old.items }
         ensures only { ChangesOnly (λ _. ⊥) (state self.old) (state self.new) }
         ensures cause { IsErrOf result ShelfFault.Failed
-            → Increased ((state self.old).fetch_faults name.now) ((state self.new).fetch_faults name.now) }
+            → Increased ((state self.old).fetch_faults name.now)
+            ((state self.new).fetch_faults name.now) }
         ensures counts { OnOk result (NoFetchFailed (state self.old) (state self.new)) }
         ensures writes { NoWriteFailed (state self.old) (state self.new) };
 
@@ -86,7 +91,8 @@ pub trait Shelf {
         ensures err { OnErr result (EmptiesOrKeeps (state self.old) (state self.new) name.now) }
         ensures only { ChangesOnly (λ other. other ≡ name.now) (state self.old) (state self.new) }
         ensures cause { IsErrOf result ShelfFault.Failed
-            → Increased ((state self.old).write_faults name.now) ((state self.new).write_faults name.now) }
+            → Increased ((state self.old).write_faults name.now)
+            ((state self.new).write_faults name.now) }
         ensures counts { OnOk result (NoWriteFailed (state self.old) (state self.new)) }
         ensures fetches { NoFetchFailed (state self.old) (state self.new) };
 
@@ -98,15 +104,17 @@ pub trait Shelf {
         ensures err { OnErr result (AddsPart (state self.old) (state self.new) name.now bytes.now) }
         ensures only { ChangesOnly (λ other. other ≡ name.now) (state self.old) (state self.new) }
         ensures cause { IsErrOf result ShelfFault.Failed
-            → Increased ((state self.old).write_faults name.now) ((state self.new).write_faults name.now) }
+            → Increased ((state self.old).write_faults name.now)
+            ((state self.new).write_faults name.now) }
         ensures counts { OnOk result (NoWriteFailed (state self.old) (state self.new)) }
         ensures fetches { NoFetchFailed (state self.old) (state self.new) };
 }
 
 /// A connection that carries bytes both ways.
 ///
-/// A link means whether an `open` of it answered `Ok`, the answers of its receives and the bytes sent, where they can be
-/// observed, and how many opens of each address, receives and sends failed and how many receives were quiet.
+/// A link means whether an `open` of it answered `Ok`, the answers of its receives and the bytes
+/// sent, where they can be observed, and how many opens of each address, receives and sends failed
+/// and how many receives were quiet.
 pub trait Link {
     ghost use Rattle.colo_base.specs.Link.{LinkState, LinkGoesOn, NoOpenFailed, NoReceiveFailed, NoSendFailed, NoneQuiet, CountsOpen, CountsReceive, CountsSend, SameAnswers, SameSent, Sends, SendsPart, Hears};
 
@@ -122,14 +130,15 @@ pub trait Link {
         ensures sent { SameSent (state self.old) (state self.new) }
         ensures goes_on { LinkGoesOn (state self.old) (state self.new) }
         ensures cause { IsErr result
-            → Increased ((state self.old).open_faults address.now) ((state self.new).open_faults address.now) }
+            → Increased ((state self.old).open_faults address.now)
+            ((state self.new).open_faults address.now) }
         ensures counts { OnOk result (NoOpenFailed (state self.old) (state self.new)) }
         ensures others { CountsOpen (state self.old) (state self.new) };
 
     /// Takes bytes that have come into the front of `into`, which isn't empty.
     ///
-    /// The link must have been opened. Nothing is sent by it. After an `Err` no answer was added, and nothing is said
-    /// of what `into` holds.
+    /// The link must have been opened. Nothing is sent by it. After an `Err` no answer was added,
+    /// and nothing is said of what `into` holds.
     fn receive(&mut self, into: &mut [u8]) -> Result<Heard, Failed>
         requires opened { IsTrue (state self.old).opened }
         requires room { 0 < length into.old }
@@ -138,14 +147,16 @@ pub trait Link {
         ensures opened { (state self.new).opened ≡ (state self.old).opened }
         ensures sent { SameSent (state self.old) (state self.new) }
         ensures goes_on { LinkGoesOn (state self.old) (state self.new) }
-        ensures cause { IsErr result → Increased (state self.old).receive_faults (state self.new).receive_faults }
+        ensures cause { IsErr result → Increased (state self.old).receive_faults
+            (state self.new).receive_faults }
         ensures counts { OnOk result (NoReceiveFailed (state self.old) (state self.new)) }
         ensures quiets { OnErr result (NoneQuiet (state self.old) (state self.new)) }
         ensures others { CountsReceive (state self.old) (state self.new) };
 
     /// Sends `bytes`.
     ///
-    /// The link must have been opened. Nothing is heard by it. After an `Err` a prefix of the bytes was sent.
+    /// The link must have been opened. Nothing is heard by it. After an `Err` a prefix of the bytes
+    /// was sent.
     fn send(&mut self, bytes: &[u8]) -> Result<(), Failed>
         requires { IsTrue (state self.old).opened }
         ensures ok { OnOk result (Sends (state self.old) (state self.new) bytes.now) }
@@ -153,7 +164,8 @@ pub trait Link {
         ensures opened { (state self.new).opened ≡ (state self.old).opened }
         ensures heard { SameAnswers (state self.old) (state self.new) }
         ensures goes_on { LinkGoesOn (state self.old) (state self.new) }
-        ensures cause { IsErr result → Increased (state self.old).send_faults (state self.new).send_faults }
+        ensures cause { IsErr result → Increased (state self.old).send_faults
+            (state self.new).send_faults }
         ensures counts { OnOk result (NoSendFailed (state self.old) (state self.new)) }
         ensures others { CountsSend (state self.old) (state self.new) };
 }
@@ -179,8 +191,8 @@ pub trait Sink {
 
 /// A clock that counts ticks.
 ///
-/// A clock means the numbers that it gave, where they can be observed, as long as they are fewer than 2^64 - 1. It never
-/// fails.
+/// A clock means the numbers that it gave, where they can be observed, as long as they are fewer
+/// than 2^64 - 1. It never fails.
 pub trait Clock {
     ghost use Rattle.colo_base.specs.Clock.{ClockState, Gives};
 
