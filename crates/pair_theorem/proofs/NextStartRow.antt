@@ -1,6 +1,6 @@
 -- A start that is no boot: the survivor of a failover with a newcomer, which holds the SYN and three bytes released
 -- before.
-use Rattle.std.proofs.Common.{◌≡◌, ℕ, zero, suc, true, List, [], ◌∷◌, None, refl, arith, slice_get, unwrap_or}
+use Rattle.std.proofs.Common.{◌≡◌, ℕ, zero, suc, true, List, [], ◌∷◌, ◌++◌, None, refl, arith, slice_get, unwrap_or}
 use Rattle.std.specs.Prelude.{All}
 use Rattle.std.specs.List.{list_all}
 use Rattle.std.proofs.lemmas.Bool.{and_parts}
@@ -8,16 +8,18 @@ use Rattle.inet_frame.specs.Bytes.{AreBytes}
 use Rattle.state_wire.specs.Guest.{GuestState, GuestTurn}
 use Rattle.pair_theorem.proofs.AllLemmas.{All_from}
 use Rattle.pair_theorem.proofs.PartTests.{bytes_are, is_byte}
-use Rattle.pair_theorem.specs.History.{lines_of, pair_log, past_at}
+use Rattle.pair_theorem.specs.History.{entries, lines_of, pair_log, past_at}
+use Rattle.pair_theorem.specs.LogParts.{run_indices}
 use Rattle.replay_log.specs.declared.lines.Line.{Line}
-use Rattle.replay_log.specs.declared.lines.Line.TheVariants.{ToPrimary}
+use Rattle.replay_log.specs.declared.lines.Line.TheVariants.{Primary, Report, Secondary, StopPrimary, ToPrimary, ToSecondary}
 use Rattle.replay_log.specs.declared.records.Answer.TheVariants.{Made, HeardBack}
 use Rattle.pair_theorem.specs.Past.{Start, Step}
 use Rattle.pair_theorem.specs.Starts.{FitsKind, IsStart, boots, follows, start_after}
 use Rattle.pair_theorem.proofs.Breaking.{OneRun, one_run_from, passes_all}
+use Rattle.pair_theorem.proofs.TrimRows.{ack_start}
 use Rattle.pair_theorem.proofs.Told.{Told, told, plain, releases, data_out}
 use Rattle.pair_theorem.proofs.WorkedFrames.{client_syn, script_start, start_with, worked_kind, worked_start, worked_table, last_digits}
-use Rattle.pair_theorem.proofs.WorkedSchedules.{primary, secondary, failover_lines}
+use Rattle.pair_theorem.proofs.WorkedSchedules.{ack_lines, primary, secondary, failover_lines}
 
 unfoldable pub next_start : Start
 unfolding start_after past_at pair_log worked_start
@@ -102,3 +104,32 @@ next_passes = refl
 
 pub next_is_one_run : OneRun next_start next_lines next_steps
 next_is_one_run = one_run_from next_start next_lines next_steps next_lines_are next_passes
+
+-- A frame that waits from before the start is given by what the client had seen then.
+unfoldable pub waiting_start : Start
+unfolding start_after past_at pair_log ack_start
+waiting_start =
+    start_after (ack_start 5004) 0
+    (past_at (ack_start 5004) (pair_log (ack_start 5004) (ack_lines ++ ToSecondary ∷ StopPrimary ∷ Report ∷ [])))
+
+abbrev pub waiting_lines : List Line
+waiting_lines = Primary 5 true 0 0 ∷ Secondary 5 true 0 0 ∷ ToPrimary ∷ []
+
+unfoldable pub waiting_steps : List Step
+unfolding pair_log waiting_start
+waiting_steps = pair_log waiting_start waiting_lines
+
+waiting_indices : run_indices (entries waiting_steps) ≡ 1 ∷ []
+unfolding waiting_steps run_indices
+waiting_indices = refl
+
+waiting_lines_are : lines_of waiting_steps ≡ waiting_lines
+unfolding waiting_steps
+waiting_lines_are = refl
+
+waiting_passes : passes_all waiting_start waiting_steps ≡ true
+unfolding waiting_start waiting_steps passes_all
+waiting_passes = refl
+
+pub waiting_is_one_run : OneRun waiting_start waiting_lines waiting_steps
+waiting_is_one_run = one_run_from waiting_start waiting_lines waiting_steps waiting_lines_are waiting_passes

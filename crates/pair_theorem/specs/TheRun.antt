@@ -1,6 +1,6 @@
 -- The run that a log names: one guest, from the start, through the turns of the single run, given
 -- the client's frames.
-use Rattle.std.specs.Prelude.{ℕ, Bool, true, false, List, [], fold, slice_get, unwrap_or}
+use Rattle.std.specs.Prelude.{Option, ℕ, Bool, true, false, List, [], fold, slice_get, unwrap_or, ◌==◌, find, None, Some}
 use Rattle.std.specs.Option.{option_map}
 use Rattle.inet_frame.specs.Fields.{TcpFields}
 use Rattle.inet_frame.specs.Frame.{seen_of}
@@ -13,6 +13,8 @@ use Rattle.tcp_track.specs.Stands.{opening_of, segments}
 use Rattle.frame_mirror.specs.declared.ingress.Entry.{Entry}
 use Rattle.frame_mirror.specs.declared.ingress.Entry.TheVariants as entry
 use Rattle.frame_mirror.specs.Accepted.{entry_of}
+use Rattle.frame_mirror.specs.declared.ring.Waiting.{Waiting}
+use Rattle.tcp_track.specs.declared.openings.Opening.{Opening}
 use Rattle.seq_rewriter.specs.Given.{given_frame, raise_frame}
 use Rattle.tcp_track.specs.Segments.{may_open}
 use Rattle.pair_theorem.specs.GuestTurns.{TurnNumbers, guest_turn, add_turn}
@@ -38,13 +40,23 @@ unfoldable pub is_accepted : Start → ℕ → Bool
 unfolding stream_entry
 is_accepted a i = is_frame (stream_entry a i)
 
+-- What the client had seen when a frame came: as the start's inbox has it, where the frame waits
+-- there from before, else as the log's client event says.
+abbrev pub seen_with : Option Waiting → Option Opening → Option Opening
+seen_with None told = told
+seen_with (Some w) told = w.seen
+
+unfoldable pub seen_of_index : Start → List Record → ℕ → Option Opening
+unfolding seen_at
+seen_of_index a log i = seen_with (find (λ (w : Waiting). w.index == i) a.inbox) (seen_at i log)
+
 -- a frame of the stream as the run is given it: cleaned, and its acknowledgement raised by what its
 -- client event saw
 unfoldable pub run_frame : Start → List Record → NodeRun → ℕ → List ℕ
-unfolding seen_at given_frame clean_syn clean_options options_of raise_frame shift_ack
+unfolding seen_of_index given_frame clean_syn clean_options options_of raise_frame shift_ack
     update_checksum overwrite seen_of opening_of may_open
 run_frame a log node i =
-    given_frame (stream_frame a i) (seen_at i log) (sent_of node.items)
+    given_frame (stream_frame a i) (seen_of_index a log i) (sent_of node.items)
 
 abbrev pub turn_numbers : Taken → TurnNumbers
 turn_numbers t = record { clock = t.clock; blocks = t.blocks; steps = t.steps }
