@@ -16,7 +16,7 @@ unfolding elf_case image_bytes half_at word_at entry_of header_at headers segmen
 mute_has_no_case size h = rw (fits 4 size h, fits 1 size (omega arith)) refl
 
 pub image_boots : (demo : Demo) → Boots (image_bytes demo)
-image_boots Mute = λ mib low high. mute_has_no_case (mib * 2 ^ 20) (omega arith)
+image_boots Mute = λ mib low. mute_has_no_case (mib * 2 ^ 20) (omega arith)
 
 pub image_size : (demo : Demo) → length (image_bytes demo) ≡ 88
 unfolding image_bytes

@@ -1,16 +1,14 @@
 -- A text is the schedule of one list of turns, and what is read is one list of bytes.
-use Rattle.std.proofs.Common.{◌≡◌, ◌≢◌, ℕ, ◌+◌, ◌<◌, ◌^◌, List, [], ◌∷◌, ◌++◌, All, Option, Some, length, take, drop, decimal, refl, sym, ap, ◌∙◌, arith, length-append, nat_eq, Bool, IsTrue}
+use Rattle.std.proofs.Common.{◌≡◌, ℕ, ◌<◌, ◌^◌, List, [], ◌∷◌, ◌++◌, All, Option, Some, drop, decimal, refl, sym, ap, ◌∙◌, arith, nat_eq, Bool, IsTrue}
 use Rattle.std.proofs.lemmas.Fmt.{decimal_injective}
-use Rattle.std.proofs.lemmas.List.{get_or_append_left}
-use Rattle.std.proofs.lemmas.List.Elements.{All-get_or, All-head, All-tail}
-use Rattle.std.proofs.Math.Seq.{get_or-append_seam, take-append_seam, drop-append-add}
+use Rattle.std.proofs.lemmas.List.Elements.{All-head, All-tail}
 use Rattle.colo_base.specs.Shelf.{ShelfState}
 use Rattle.colo_top.specs.declared.schedule.Turn.{Turn}
 use Rattle.colo_top.specs.Schedule.{line_text, schedule_text, flag, IsGood, IsSchedule}
 use Rattle.colo_top.specs.Words.{ReplayWords}
 use Rattle.colo_top.specs.Files.{HasFile}
 use Rattle.colo_top.specs.Reading.{Texts, AreRead}
-use Rattle.colo_top.proofs.NumberLemmas.{first_place, apart_decimal}
+use Rattle.colo_top.proofs.NumberLemmas.{number_first, rest_after, same_rest}
 use Rattle.colo_top.proofs.ScheduleLemmas.{from_ticks, from_receives, from_requests, from_steps, line_text_from_front, flag_small, flag_back, schedule_none, schedule_first}
 
 -- ---- the files that were read
@@ -45,27 +43,9 @@ number_parts : (n m end : ℕ) (xs ys : List ℕ) → n < 2 ^ 64 → m < 2 ^ 64 
     → decimal n ++ (end ∷ xs) ≡ decimal m ++ (end ∷ ys) → (n ≡ m) × (xs ≡ ys)
 number_parts n m end xs ys small smaller low e =
     let text = decimal n ++ (end ∷ xs) in
-    let apart_n = apart_decimal n end small low in
-    let apart_m = apart_decimal m end smaller low in
-    let inside : length (decimal n) < length (decimal n ++ (end ∷ xs)) = omega (
-      arith,
-      length-append (decimal n) (end ∷
-          xs),
-    ) in
-    let long : length (decimal n) ≡ length (decimal m) =
-    first_place (decimal n ++ (end ∷ xs)) (decimal m) ys end (length (decimal n)) apart_m e
-    (λ k h f. All-get_or (λ byte. byte ≢ end) (decimal n) k 0 h apart_n (sym (get_or_append_left (decimal n) (end ∷
-    xs) 0 k h) ∙ f)) inside (get_or-append_seam (decimal n) end xs 0)
-    in
-    let front : decimal n ≡ decimal m =
-    sym (take-append_seam (decimal n) (end ∷ xs)) ∙ (ap (λ t. take (length (decimal n)) t) e
-    ∙ (ap (λ k. take k (decimal m ++ (end ∷ ys))) long ∙ take-append_seam (decimal m) (end ∷ ys)))
-    in
-    let back : xs ≡ ys =
-    sym (drop-append-add (decimal n) (end ∷ xs) 1) ∙ (ap (λ t. drop (length (decimal n) + 1) t) e
-    ∙ (ap (λ k. drop (k + 1) (decimal m ++ (end ∷ ys))) long ∙ drop-append-add (decimal m) (end ∷ ys) 1))
-    in
-    (decimal_injective n m small smaller front, back)
+    let first = sym (number_first text xs n end small low refl) ∙ number_first text ys m end smaller low e in
+    let rest = sym (rest_after text xs n end small low refl) ∙ rest_after text ys m end smaller low e in
+    (decimal_injective n m small smaller first, same_rest xs ys rest)
 
 flag_injective : (a b : Bool) → flag a ≡ flag b → a ≡ b
 flag_injective a b e = sym (flag_back a) ∙ (ap (λ n. nat_eq n 1) e ∙ flag_back b)

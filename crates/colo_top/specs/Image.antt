@@ -39,6 +39,6 @@ mute_program = word 0x0000006F
 unfoldable pub image_bytes : Demo → List ℕ
 image_bytes Mute = file_header ++ (program_header 4 ++ mute_program)
 
--- no case of the loader holds of an image, whatever memory's size from 1 to 64 MiB
+-- no case of the loader holds of an image, in memory of 1 MiB or more
 abbrev pub Boots : List ℕ → Type 0
-Boots image = (mib : ℕ) → 1 ≤ mib → mib ≤ 64 → elf_case (mib * 2 ^ 20) image ≡ None
+Boots image = (mib : ℕ) → 1 ≤ mib → elf_case (mib * 2 ^ 20) image ≡ None

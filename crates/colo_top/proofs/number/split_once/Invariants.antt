@@ -1,6 +1,0 @@
--- No byte that was passed is the one that ends the word.
-use Rattle.std.proofs.Common.{◌≡◌, ℕ, ◌<◌, get_or}
-use Rattle.colo_top.proofs.number.split_once.Given as goal
-
-abbrev pub invariant-loop-i : goal.invariant-loop-i
-invariant-loop-i l = (k : ℕ) → k < l.i → get_or l.text k 0 ≡ l.end → ⊥
