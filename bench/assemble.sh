@@ -3,17 +3,9 @@
 # about twice as long. The program stands in a folder of its own that is made and removed here, since it is
 # no part of the repository; the first run proves it, and takes some minutes where the crates below it are not proved yet.
 set -eu
-top=$(cd "$(dirname "$0")/.." && pwd)
-work=$(mktemp -d)
-trap 'rm -rf "$work"' EXIT
-mkdir -p "$work/crates/time_assemble/src" "$work/crates/time_assemble/specs" "$work/crates/time_assemble/proofs"
-for crate in shared_definitions ascii_text colo_base rv_isa rv_forms rv_asm; do
-    mkdir -p "$work/crates/$crate"
-    (cd "$top/crates/$crate" && tar cf - --exclude=out .) | (cd "$work/crates/$crate" && tar xf -)
-    grep "^$crate:" "$top/crates.txt" >> "$work/crates.txt"
-done
-echo 'time_assemble: anyhow rv_asm' >> "$work/crates.txt"
-cat > "$work/crates/time_assemble/src/main.rt" <<'MAIN'
+. "$(dirname "$0")/scratch.sh"
+scratch time_assemble anyhow rv_asm
+cat > src/main.rt <<'MAIN'
 //! Times the assembler.
 #![tactic(auto)]
 
@@ -55,5 +47,4 @@ fn main(rt: HostRuntime) -> Result<()> {
     time(&rt, 200_000)
 }
 MAIN
-cd "$work/crates/time_assemble"
 rt run
