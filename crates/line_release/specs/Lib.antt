@@ -1,0 +1,4 @@
+pub mod Whole
+pub mod Both
+pub mod Prefix
+pub mod PieceSegment
