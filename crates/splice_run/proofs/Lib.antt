@@ -1,3 +1,4 @@
 pub mod BackLemmas
 pub mod FrameLemmas
 pub mod MarkLemmas
+pub mod RunLemmas

@@ -1,10 +1,18 @@
-//! The law that a reader believes.
+//! Laws of the single run.
 
-ghost use Rattle.std.specs.Prelude.{◌≡◌, List};
+ghost use Rattle.std.specs.Prelude.{◌≡◌, ℕ, List, flat_map};
+ghost use Rattle.replay_log.specs.Texts.{IsLog, IsSingle, turn_text};
 ghost use Rattle.replay_log.specs.declared.records.Record.{Record};
 ghost use Rattle.splice_run.specs.Single.{single_run, single_fold};
 
 /// A law: the single run by the positions of a log's marks is its fold, on every log.
 pub fn splices_by_marks()
     ensures { (log : List Record) → single_fold log ≡ single_run log }
+{}
+
+/// A law: the single run of a log that has a text has one too, the join of its turns' lines. So it
+/// is read again.
+pub fn single_run_is_spelled()
+    ensures { (log : List Record) (text : List ℕ) → IsLog log text
+        → IsSingle (single_run log) (flat_map turn_text (single_run log)) }
 {}

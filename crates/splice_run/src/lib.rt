@@ -6,7 +6,7 @@ mod parts;
 mod seen;
 mod splicing;
 
-pub use law::splices_by_marks;
+pub use law::{single_run_is_spelled, splices_by_marks};
 pub use splicing::splice;
 
 #[cfg(test)]
