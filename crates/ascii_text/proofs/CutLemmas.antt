@@ -5,7 +5,8 @@ use Rattle.std.proofs.lemmas.List.Elements.{All-nil, All-cons}
 use Rattle.ascii_text.specs.Cuts.{Halves, cut, with_front}
 
 -- the byte at index i is the first
-pub cut_at : (c : ℕ) (xs : List ℕ) (i : ℕ) → ((k : ℕ) → k < i → get_or xs k 0 ≡ c → ⊥) → i < length xs → get_or xs i 0 ≡ c → cut c xs ≡ record { before = take i xs; after = Some (drop (suc i) xs) }
+pub cut_at : (c : ℕ) (xs : List ℕ) (i : ℕ) → ((k : ℕ) → k < i → get_or xs k 0 ≡ c → ⊥) → i < length xs →
+    get_or xs i 0 ≡ c → cut c xs ≡ record { before = take i xs; after = Some (drop (suc i) xs) }
 cut_at c [] i none inside here = absurd (omega arith)
 cut_at c (x ∷ xs) zero none inside here = rw (eq-eqb x c here) refl
 cut_at c (x ∷ xs) (suc i) none inside here =
@@ -14,7 +15,8 @@ cut_at c (x ∷ xs) (suc i) none inside here =
     rw (ne_eqb x c other, rest) refl
 
 -- there is no such byte
-pub cut_none : (c : ℕ) (xs : List ℕ) → ((k : ℕ) → k < length xs → get_or xs k 0 ≡ c → ⊥) → cut c xs ≡ record { before = xs; after = None }
+pub cut_none : (c : ℕ) (xs : List ℕ) → ((k : ℕ) → k < length xs → get_or xs k 0 ≡ c → ⊥) →
+    cut c xs ≡ record { before = xs; after = None }
 cut_none c [] none = refl
 cut_none c (x ∷ xs) none =
     let other : (x ≡ c → ⊥) = none 0 (omega arith) in
@@ -32,7 +34,9 @@ cut_later c x xs ne = rw (ne_eqb x c ne) refl
 abbrev AreParts : ℕ → List ℕ → Halves → Type 0
 AreParts c xs halves = MatchOption halves.after (halves.before ≡ xs) (λ rest. halves.before ++ (c ∷ rest) ≡ xs)
 
-parts_more : (c x : ℕ) (xs : List ℕ) (front : List ℕ) (after : Option (List ℕ)) → AreParts c xs (record { before = front; after = after }) → AreParts c (x ∷ xs) (record { before = x ∷ front; after = after })
+parts_more : (c x : ℕ) (xs : List ℕ) (front : List ℕ) (after : Option (List ℕ)) →
+    AreParts c xs (record { before = front; after = after }) →
+    AreParts c (x ∷ xs) (record { before = x ∷ front; after = after })
 parts_more c x xs front None e = ap (λ (ys : List ℕ). x ∷ ys) e
 parts_more c x xs front (Some rest) e = ap (λ (ys : List ℕ). x ∷ ys) e
 
@@ -54,6 +58,8 @@ cut_apart c (x ∷ xs) =
     ]
 
 -- no other two parts are so
-pub cut_append : (c : ℕ) (front rest : List ℕ) → All (λ x. x ≢ c) front → cut c (front ++ (c ∷ rest)) ≡ record { before = front; after = Some rest }
+pub cut_append : (c : ℕ) (front rest : List ℕ) → All (λ x. x ≢ c) front →
+    cut c (front ++ (c ∷ rest)) ≡ record { before = front; after = Some rest }
 cut_append c [] rest none = cut_here c c rest refl
-cut_append c (x ∷ front) rest none = cut_later c x (front ++ (c ∷ rest)) (none 0 x (omega arith)) ∙ ap (λ (halves : Halves). with_front x halves) (cut_append c front rest (λ k d lt. none (suc k) d (omega arith)))
+cut_append c (x ∷ front) rest none = cut_later c x (front ++ (c ∷ rest)) (none 0 x (omega arith))
+    ∙ ap (λ (halves : Halves). with_front x halves) (cut_append c front rest (λ k d lt. none (suc k) d (omega arith)))

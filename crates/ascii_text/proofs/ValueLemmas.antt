@@ -15,12 +15,19 @@ pub within_large : (most n : ℕ) → most < n → within most n ≡ Err TooLarg
 within_large most n large = rw (lt-leb n most large) refl
 
 -- a number that is too large stays so with more digits
-pub still_large : (base most : ℕ) (digits : List ℕ) (i value : ℕ) → 1 ≤ base → i < length digits → value ≡ digits_value base (take i digits) → most < value * base + digit_value (get_or digits i 0)
+pub still_large : (base most : ℕ) (digits : List ℕ) (i value : ℕ) → 1 ≤ base → i < length digits →
+    value ≡ digits_value base (take i digits) → most < value * base + digit_value (get_or digits i 0)
     → within most (digits_value base digits) ≡ Err TooLarge
 still_large base most digits i value low inside so_far large =
-    within_large most (digits_value base digits) (omega (arith, digits_value-take-le base digits (i + 1) low, rw (← so_far) at (digits_value_more base digits i inside)))
+    within_large most (digits_value base digits) (omega (
+      arith,
+      digits_value-take-le base digits (i + 1) low,
+      rw (← so_far) at (digits_value_more base digits i inside),
+    ))
 
 -- the value of one digit more
-pub with_more : (base : ℕ) (digits : List ℕ) (i value digit number : ℕ) → i < length digits → value ≡ digits_value base (take i digits) → digit ≡ digit_value (get_or digits i 0) → number ≡ value * base + digit
+pub with_more : (base : ℕ) (digits : List ℕ) (i value digit number : ℕ) → i < length digits →
+    value ≡ digits_value base (take i digits) → digit ≡ digit_value (get_or digits i 0) →
+    number ≡ value * base + digit
     → number ≡ digits_value base (take (i + 1) digits)
 with_more base digits i value digit number inside so_far this e = let more = digits_value_more base digits i inside in cc

@@ -11,4 +11,5 @@ with_front byte halves = record { before = byte ∷ halves.before; after = halve
 
 abbrev pub cut : ℕ → List ℕ → Halves
 cut at [] = record { before = []; after = None }
-cut at (byte ∷ bytes) = if byte == at then record { before = []; after = Some bytes } else with_front byte (cut at bytes)
+cut at (byte ∷ bytes) = if byte == at then record { before = []; after = Some bytes }
+    else with_front byte (cut at bytes)

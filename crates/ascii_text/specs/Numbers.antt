@@ -1,4 +1,5 @@
--- Numbers without a sign, as digits (decimal numbers as std's `decimal` writes them, without needless zeros).
+-- Numbers without a sign, as digits (decimal numbers as std's `decimal` writes them, without
+-- needless zeros).
 use Rattle.std.specs.Prelude.{ℕ, Bool, not, List, length, Result, Ok, Err, nat_lt, nat_le, ◌==◌, ◌&&◌, ◌||◌, if◌then◌else◌, slice_index}
 use Rattle.std.specs.Char.{is_digit}
 use Rattle.std.specs.List.{list_all}
@@ -25,8 +26,11 @@ within most n = if nat_le n most then Ok n else Err TooLarge
 
 -- the number of at most `most` that a decimal text writes
 abbrev pub decimal_within : ℕ → List ℕ → Result ℕ NumberFault
-decimal_within most text = if is_decimal text then within most (digits_value 10 text) else Err NoNumber
+decimal_within most text = if is_decimal text then within most (digits_value 10 text)
+    else Err NoNumber
 
--- the number of at most `most` that hexadecimal digits write, letters of either case, zeros in front allowed
+-- the number of at most `most` that hexadecimal digits write, letters of either case, zeros in
+-- front allowed
 abbrev pub hexadecimal_within : ℕ → List ℕ → Result ℕ NumberFault
-hexadecimal_within most text = if is_numeral 16 text then within most (digits_value 16 text) else Err NoNumber
+hexadecimal_within most text = if is_numeral 16 text then within most (digits_value 16 text)
+    else Err NoNumber

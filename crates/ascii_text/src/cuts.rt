@@ -17,12 +17,14 @@ pub fn cut(text: &[u8], at: u8) -> (&[u8], Option<&[u8]>)
     (text, None)
 }
 
-/// A cut parts the text at its first such byte: the parts give the text again, the first part is free of
-/// the byte, and no other two parts are so.
+/// A cut parts the text at its first such byte: the parts give the text again, the first part is
+/// free of the byte, and no other two parts are so.
 pub fn cut_is_at_the_first()
-    ensures parts { (at : ℕ) (text : List ℕ) → MatchOption (cut at text).after ((cut at text).before ≡ text)
+    ensures parts { (at : ℕ) (text : List ℕ)
+        → MatchOption (cut at text).after ((cut at text).before ≡ text)
         (λ rest. (cut at text).before ++ (at ∷ rest) ≡ text) }
     ensures apart { (at : ℕ) (text : List ℕ) → All (λ byte. byte ≢ at) (cut at text).before }
     ensures each { (at : ℕ) (front rest : List ℕ) → All (λ byte. byte ≢ at) front
-        → ((cut at (front ++ (at ∷ rest))).before ≡ front) × ((cut at (front ++ (at ∷ rest))).after ≡ Some rest) }
+        → ((cut at (front ++ (at ∷ rest))).before ≡ front)
+        × ((cut at (front ++ (at ∷ rest))).after ≡ Some rest) }
 {}

@@ -85,8 +85,9 @@ fn decimal_within(text: &[u8], most: u64) -> Result<u64, NumberFault>
     }
 }
 
-/// The number of at most `most` that the text writes in decimal, without sign or needless zeros. The
-/// text is then std's `decimal` of the number. A text of any length that writes a larger number is
+/// The number of at most `most` that the text writes in decimal, without sign or needless zeros.
+/// The text is then std's `decimal` of the number. A text of any length that writes a larger number
+/// is
 /// `TooLarge`, and any other text is `NoNumber`.
 pub fn read_decimal(text: &[u8], most: u64) -> Result<u64, NumberFault>
     ensures exact { result ≡ decimal_within most text.now }
@@ -98,8 +99,9 @@ pub fn read_decimal(text: &[u8], most: u64) -> Result<u64, NumberFault>
     decimal_within(text, most)
 }
 
-/// The number of at most `most` that the text writes in hexadecimal digits, of either case, zeros in
-/// front allowed. A text of any length that writes a larger number is `TooLarge`, and any other text is
+/// The number of at most `most` that the text writes in hexadecimal digits, of either case, zeros
+/// in front allowed. A text of any length that writes a larger number is `TooLarge`, and any other
+/// text is
 /// `NoNumber`.
 pub fn read_hexadecimal(text: &[u8], most: u64) -> Result<u64, NumberFault>
     ensures { result ≡ hexadecimal_within most text.now }
@@ -114,11 +116,14 @@ pub fn read_hexadecimal(text: &[u8], most: u64) -> Result<u64, NumberFault>
 /// Reading a decimal text by its digits gives exactly the number whose text std writes so.
 pub fn decimal_is_read()
     ensures read { (most n : ℕ) → n ≤ most → n < 2 ^ 64 → decimal_within most (decimal n) ≡ Ok n }
-    ensures written { (most : ℕ) (text : List ℕ) (n : ℕ) → n < 2 ^ 64 → decimal_within most text ≡ Ok n → text ≡ decimal n }
+    ensures written { (most : ℕ) (text : List ℕ) (n : ℕ) → n < 2 ^ 64
+        → decimal_within most text ≡ Ok n → text ≡ decimal n }
 {}
 
-/// A number that is written in hexadecimal digits is read again, without zeros in front or with them.
+/// A number that is written in hexadecimal digits is read again, without zeros in front or with
+/// them.
 pub fn hexadecimal_is_read()
     ensures short { (most n : ℕ) → n ≤ most → hexadecimal_within most (hexadecimal n) ≡ Ok n }
-    ensures eight { (most n : ℕ) → n ≤ most → n < 2 ^ 32 → hexadecimal_within most (hexadecimal_digits 8 n) ≡ Ok n }
+    ensures eight { (most n : ℕ) → n ≤ most → n < 2 ^ 32
+        → hexadecimal_within most (hexadecimal_digits 8 n) ≡ Ok n }
 {}

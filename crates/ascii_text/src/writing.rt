@@ -30,8 +30,8 @@ fn glyph(digit: u32) -> char
     }
 }
 
-/// Appends the number in hexadecimal, letters in upper case, without needless zeros. After an error the
-/// string begins with what it held.
+/// Appends the number in hexadecimal, letters in upper case, without needless zeros. After an error
+/// the string begins with what it held.
 #[tactic(auto, using(crate::proofs::WritingLemmas::hexadecimal_more, crate::proofs::WritingLemmas::hexadecimal_one))]
 pub fn push_hexadecimal(into: &mut String, number: u32) -> Result<(), AllocError>
     ensures ok { OnOk result (string_bytes into.new ≡ string_bytes into.old ++ hexadecimal number) }
@@ -46,11 +46,12 @@ pub fn push_hexadecimal(into: &mut String, number: u32) -> Result<(), AllocError
     Ok(())
 }
 
-/// Appends the last `count` hexadecimal digits of the number, letters in upper case, zeros among them.
-/// After an error the string begins with what it held.
+/// Appends the last `count` hexadecimal digits of the number, letters in upper case, zeros among
+/// them. After an error the string begins with what it held.
 #[tactic(auto, using(crate::proofs::WritingLemmas::hexadecimal_digits_more, crate::proofs::WritingLemmas::hexadecimal_digits_none))]
 pub fn push_hexadecimal_digits(into: &mut String, count: u32, number: u32) -> Result<(), AllocError>
-    ensures ok { OnOk result (string_bytes into.new ≡ string_bytes into.old ++ hexadecimal_digits count number) }
+    ensures ok { OnOk result (string_bytes into.new
+        ≡ string_bytes into.old ++ hexadecimal_digits count number) }
     ensures err { OnErr result (Begins (string_bytes into.old) (string_bytes into.new)) }
 {
     if count == 0 {

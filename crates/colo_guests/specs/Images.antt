@@ -1,13 +1,13 @@
--- An image as an ELF file of one segment: Tool Interface Standard, Executable and Linking Format 1.2, book I, "ELF
--- Header" and "Program Header".
+-- An image as an ELF file of one segment: Tool Interface Standard, Executable and Linking Format
+-- 1.2, book I, "ELF Header" and "Program Header".
 use Rattle.std.specs.Prelude.{ℕ, ◌*◌, List, [], ◌∷◌, ◌++◌, length, Option, Some, None, codes, if◌then◌else◌, option_map}
 use Rattle.std.specs.Int.{w32, to_le_bytes}
 use Rattle.std.specs.List.{flat_map}
 use Rattle.std.specs.Str.{bytes_eq}
 use Rattle.colo_guests.specs.declared.words.TheConstants.{MUTE, ECHO, CLOCKED, DISK_LOG}
 
--- the file header: 32 bits, little-endian, executable, RISC-V; the program begins at 0x80000000, and one program
--- header stands after it
+-- the file header: 32 bits, little-endian, executable, RISC-V; the program begins at 0x80000000,
+-- and one program header stands after it
 abbrev pub file_header : List ℕ
 file_header =
     0x7F ∷ 0x45 ∷ 0x4C ∷ 0x46 ∷ 1 ∷ 1 ∷ 1 ∷ 0 ∷ 0 ∷ 0 ∷ 0 ∷ 0 ∷ 0 ∷ 0 ∷ 0 ∷ 0 ∷  -- e_ident
@@ -16,8 +16,8 @@ file_header =
     0 ∷ 0 ∷ 0 ∷ 0 ∷ 52 ∷ 0 ∷ 32 ∷ 0 ∷ 1 ∷ 0 ∷  -- e_flags, e_ehsize, e_phentsize, e_phnum
     0 ∷ 0 ∷ 0 ∷ 0 ∷ 0 ∷ 0 ∷ []  -- e_shentsize, e_shnum, e_shstrndx
 
--- what stands in the program header before and after the sizes: a segment to be loaded at 0x80000000, from byte 84 on,
--- which may be read, written and executed
+-- what stands in the program header before and after the sizes: a segment to be loaded at
+-- 0x80000000, from byte 84 on, which may be read, written and executed
 abbrev pub segment_place : List ℕ
 segment_place = 1 ∷ 0 ∷ 0 ∷ 0 ∷ 84 ∷ 0 ∷ 0 ∷ 0 ∷ 0 ∷ 0 ∷ 0 ∷ 0x80 ∷ 0 ∷ 0 ∷ 0 ∷ 0x80 ∷ []
 

@@ -24,7 +24,8 @@ const FLAGS: [u8; 8] = [7, 0, 0, 0, 4, 0, 0, 0];
 
 /// Appends the words, each little-endian.
 fn push_words(bytes: &mut Vec<u8>, words: &[u32]) -> Result<(), AllocError>
-    ensures { OnOk result (bytes.new.items ≡ bytes.old.items ++ flat_map (to_le_bytes w32) words.now) }
+    ensures { OnOk result (bytes.new.items
+        ≡ bytes.old.items ++ flat_map (to_le_bytes w32) words.now) }
 {
     for word in words {
         bytes.extend_from_slice(&word.to_le_bytes())?;
@@ -66,8 +67,9 @@ fn words_of(name: &str) -> Option<&'static [u32]>
     }
 }
 
-/// The image of the guest with this name, `mute`, `echo`, `clocked` or `disk_log`; `None` for any other
-/// name. It is an ELF file of one segment at 0x80000000, which any memory of 1 MiB or more takes.
+/// The image of the guest with this name, `mute`, `echo`, `clocked` or `disk_log`; `None` for any
+/// other name. It is an ELF file of one segment at 0x80000000, which any memory of 1 MiB or more
+/// takes.
 pub fn image(alloc: Global, name: &str) -> Result<Option<Vec<u8>>, NoMemory>
     ensures file { IfOk result (λ o. option_map (λ bytes. bytes.items) o ≡ image name.now) }
     ensures loads { IfOk result (λ o. IfSome o

@@ -1,5 +1,5 @@
-//! The texts of the guests: assembly, with comments from `#` on and indented statements, which the assembler
-//! itself doesn't take. A server stands before `TCP`, which all of them share.
+//! The texts of the guests: assembly, with comments from `#` on and indented statements, which the
+//! assembler itself doesn't take. A server stands before `TCP`, which all of them share.
 
 /// Does nothing.
 pub const MUTE: &str = "\

@@ -63,6 +63,7 @@ unfolding elf_case
 segments_fit size bytes e =
     let rest : List Case =
     (11, list_all is_empty (segments bytes)) ∷ (12, not (can_start size (entry_of bytes))) ∷ [] in
-    first_two 9 10 (list_any (overruns (length bytes)) (segments bytes)) (list_any (lies_outside size) (segments bytes))
+    first_two 9 10 (list_any (overruns (length bytes)) (segments bytes)) (list_any (lies_outside size)
+    (segments bytes))
     rest
     (none_of_back (file_cases bytes) (segment_cases size bytes) e)

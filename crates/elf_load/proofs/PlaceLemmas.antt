@@ -44,7 +44,8 @@ place_segment_is bytes memory s xs ys at n j k at_is n_is j_is k_is xs_is len ys
     ∙ sym (append_assoc (take (place_of s.p_paddr) memory) (content bytes s) _)
 
 -- a segment without a byte changes nothing
-content_none : (bytes : List ℕ) (from n m : ℕ) → n ≡ 0 → m ≡ 0 → slice_range bytes from (from + n) ++ replicate m 0 ≡ []
+content_none : (bytes : List ℕ) (from n m : ℕ) → n ≡ 0 → m ≡ 0 →
+    slice_range bytes from (from + n) ++ replicate m 0 ≡ []
 content_none bytes from n m e f =
     let none : from + n - from ≡ 0 = omega arith in
     rw (f, none) refl

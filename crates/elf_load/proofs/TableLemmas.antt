@@ -21,7 +21,8 @@ unfolding segments_up_to
 up_to_none bytes = refl
 
 up_to_more : (bytes : List ℕ) (k : ℕ)
-    → segments_up_to bytes (k + 1) ≡ segments_up_to bytes k ++ cond (is_load (entry_at bytes k)) (entry_at bytes k ∷ []) []
+    → segments_up_to bytes (k + 1) ≡ segments_up_to bytes k
+    ++ cond (is_load (entry_at bytes k)) (entry_at bytes k ∷ []) []
 unfolding segments_up_to
 up_to_more bytes k = filter_of_map_range_with_len_more is_load (entry_at bytes) 0 k k (zero-add k)
 
@@ -117,7 +118,8 @@ found_loaded {bytes} {size} {k} h found at loaded fits outside empty =
       no_overrun = ap (list_any (overruns (length bytes))) more
           ∙ any_push (overruns (length bytes)) (segments_up_to bytes k) h false fits ∙ rw (found.no_overrun) refl;
       outside_is = outside ∙ ap (λ b. b || lies_outside size h) found.outside_is
-          ∙ sym (ap (list_any (lies_outside size)) more ∙ any_push (lies_outside size) (segments_up_to bytes k) h _ refl);
+          ∙ sym (ap (list_any (lies_outside size)) more ∙ any_push (lies_outside size)
+          (segments_up_to bytes k) h _ refl);
       empty_is = empty ∙ ap (λ b. b && is_empty h) found.empty_is
           ∙ sym (ap (list_all is_empty) more ∙ all_push is_empty (segments_up_to bytes k) h _ refl);
     }

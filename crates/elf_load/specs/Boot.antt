@@ -32,19 +32,30 @@ can_start size address = is_inside size address 1 && (address % 4 == 0)
 abbrev pub file_cases : List ℕ → List Case
 file_cases bytes =
     (1, nat_lt (length bytes) 52)  -- a file header has 52 bytes
-    ∷ (2, not (starts_with nat_eq bytes (0x7F ∷ 0x45 ∷ 0x4C ∷ 0x46 ∷ [])))  -- EI_MAG0 to EI_MAG3: 7F, E, L, F
+    ∷ (
+      2,
+      not (starts_with nat_eq bytes
+          (0x7F ∷ 0x45 ∷ 0x4C ∷ 0x46 ∷ [])),
+    )  -- EI_MAG0 to EI_MAG3: 7F, E, L, F
     ∷ (3, not (slice_index bytes 4 == 1))  -- EI_CLASS: ELFCLASS32
     ∷ (4, not (slice_index bytes 5 == 1))  -- EI_DATA: ELFDATA2LSB
     ∷ (5, not (half_at bytes 16 == 2))  -- e_type: ET_EXEC
     ∷ (6, not (half_at bytes 18 == 243))  -- e_machine: EM_RISCV
     ∷ (7, not (half_at bytes 42 == 32))  -- e_phentsize
-    ∷ (8, nat_lt (length bytes) (table_place bytes + 32 * table_count bytes))  -- the table is in the file
+    ∷ (
+      8,
+      nat_lt (length bytes)
+          (table_place bytes + 32 * table_count bytes),
+    )  -- the table is in the file
     ∷ []
 
 -- the cases of the segments and the entry, for memory of this size
 abbrev pub segment_cases : ℕ → List ℕ → List Case
-segment_cases size bytes =
-    (9, list_any (overruns (length bytes)) (segments bytes))  -- the bytes of each segment are in the file, and fit
+segment_cases size bytes = (
+  9,
+  list_any (overruns (length bytes))
+      (segments bytes),
+)  -- the bytes of each segment are in the file, and fit
     ∷ (10, list_any (lies_outside size) (segments bytes))  -- each segment is in memory
     ∷ (11, list_all is_empty (segments bytes))  -- some segment has bytes in memory
     ∷ (12, not (can_start size (entry_of bytes)))  -- e_entry is in memory, and a multiple of 4

@@ -54,19 +54,38 @@ no_label : (name : List ℕ) → list_all is_name_byte name ≡ true → label_o
 unfolding label_of
 no_label name plain = rw (cut_whole is_name_byte colon name plain refl) refl
 
-line_by : (name text : List ℕ) → list_all is_name_byte name ≡ true → (cut space text).before ≡ name → 0 < length text → line_of text ≡ record { label = None; statement = Some text }
+line_by : (name text : List ℕ) → list_all is_name_byte name ≡ true → (cut space text).before ≡ name →
+    0 < length text → line_of text ≡ record { label = None; statement = Some text }
 unfolding line_of
-line_by name text plain is some = rw (is, no_label name plain, ne_eqb (length text) 0 (λ e. omega (arith, e, some))) refl
+line_by name text plain is some = rw (
+  is,
+  no_label name plain,
+  ne_eqb (length text) 0 (λ e. omega (
+    arith,
+    e,
+    some,
+  )),
+) refl
 
-is_line : (places : List ℕ → Option ℕ) (here : ℕ) (name : List ℕ) (kinds : List Kind) (text : List ℕ) (f : Operands) → list_all is_name_byte name ≡ true → 0 < length name → IsStatementText places here name kinds text f → IsLine text
+is_line : (places : List ℕ → Option ℕ) (here : ℕ) (name : List ℕ) (kinds : List Kind) (text : List ℕ)
+    (f : Operands) → list_all is_name_byte name ≡ true → 0 < length name →
+    IsStatementText places here name kinds text f → IsLine text
 unfolding is_line_byte
 is_line places here name [] text f plain some h = record {
   bytes = rw h (weaken is_name_byte is_line_byte name from_name plain);
-  alone = line_by name text plain (ap (λ (t : List ℕ). (cut space t).before) h ∙ ap (λ (q : Halves). q.before) (cut_whole is_name_byte space name plain refl)) (rw h some);
+  alone = line_by name text plain (ap (λ (t : List ℕ). (cut space t).before) h
+      ∙ ap (λ (q : Halves). q.before) (cut_whole is_name_byte space name plain refl)) (rw h some);
 }
 is_line places here name (kind ∷ more) text f plain some h = record {
-  bytes = rw h.1 (joined_all is_line_byte name (space ∷ h.0) (weaken is_name_byte is_line_byte name from_name plain) (operands_bytes is_line_byte from_operand refl refl places here kind more h.0 f h.2));
-  alone = line_by name text plain (ap (λ (t : List ℕ). (cut space t).before) h.1 ∙ ap (λ (q : Halves). q.before) (cut_before is_name_byte space name h.0 plain refl)) (omega (arith, ap length h.1, length-append name (space ∷ h.0)));
+  bytes = rw h.1 (joined_all is_line_byte name (space ∷ h.0)
+      (weaken is_name_byte is_line_byte name from_name plain)
+      (operands_bytes is_line_byte from_operand refl refl places here kind more h.0 f h.2));
+  alone = line_by name text plain (ap (λ (t : List ℕ). (cut space t).before) h.1
+      ∙ ap (λ (q : Halves). q.before) (cut_before is_name_byte space name h.0 plain refl)) (omega (
+        arith,
+        ap length h.1,
+        length-append name (space ∷ h.0),
+      ));
 }
 
 -- ---- a text of one line
@@ -75,7 +94,8 @@ split_none : (xs : List ℕ) → list_all is_line_byte xs ≡ true → slice_spl
 split_none [] all = refl
 split_none (x ∷ xs) all =
     let b = and_parts (is_line_byte x) (list_all is_line_byte xs) all in
-    let other : (x ≡ newline → ⊥) = λ e. let h : is_line_byte newline ≡ true = ap is_line_byte (sym e) ∙ b.0 in let no = not_newline in cc in
+    let other : (x ≡ newline → ⊥) = λ e. let h : is_line_byte newline ≡ true = ap is_line_byte (sym e)
+    ∙ b.0 in let no = not_newline in cc in
     rw (ne_eqb x newline other, split_none xs b.1) refl
 
 one_line : (xs : List ℕ) → list_all is_line_byte xs ≡ true → is_one_line xs ≡ true
@@ -83,9 +103,11 @@ one_line xs all = weaken is_line_byte (λ c. not (eqb c newline)) xs (λ c e. by
   where
     by : (c : ℕ) (b : Bool) → eqb c newline ≡ b → is_line_byte c ≡ true → not b ≡ true
     by c false e h = refl
-    by c true e h = let g : is_line_byte newline ≡ true = ap is_line_byte (sym (eqb-true c newline e)) ∙ h in let never = not_newline in absurd cc
+    by c true e h = let g : is_line_byte newline ≡ true = ap is_line_byte (sym (eqb-true c newline e))
+        ∙ h in let never = not_newline in absurd cc
 
-program_by : (text : List ℕ) (word : ℕ) → IsLine text → statement (places_of text) 0 text ≡ Ok (word ∷ []) → Assembles text (word ∷ [])
+program_by : (text : List ℕ) (word : ℕ) → IsLine text → statement (places_of text) 0 text ≡ Ok (word ∷ []) →
+    Assembles text (word ∷ [])
 unfolding program program_from line_words
 program_by text word line read = rw (split_none text line.bytes, line.alone, read) refl
 
@@ -102,8 +124,14 @@ is_text : (o : Option Mnemonic) (word : ℕ) → word < 2 ^ 32 → mnemonic_of w
 is_text None word below e =
     let f : Operands = record (blank false false) { wide = word } in
     record {
-      line = is_line nowhere 0 (codes ".word") (kinds.Word ∷ []) (data_text word) f refl (omega arith) (statement_written nowhere 0 (codes ".word") (kinds.Word ∷ []) f (below, tt));
-      means = λ places here. inr (inl (record { word = word; only = refl; written = statement_written places here (codes ".word") (kinds.Word ∷ []) f (below, tt) }));
+      line = is_line nowhere 0 (codes ".word") (kinds.Word ∷ []) (data_text word) f refl (omega arith)
+          (statement_written nowhere 0 (codes ".word") (kinds.Word ∷ []) f (below, tt));
+      means = λ places here. inr (inl (record {
+        word = word;
+        only = refl;
+        written = statement_written places here
+            (codes ".word") (kinds.Word ∷ []) f (below, tt);
+      }));
     }
 is_text (Some m) word below e =
     let found = fitting_found word m e in
@@ -111,8 +139,11 @@ is_text (Some m) word below e =
     let f : Operands = operands_of m.syntax word in
     let ranges = operands_in_range m.syntax word below in
     record {
-      line = is_line nowhere 0 name (kinds_of m.syntax) (text_by (Some m) word) f (name_bytes m (aq word) (rl word) found.0) (name_some m (aq word) (rl word) found.0) (statement_written nowhere 0 name (kinds_of m.syntax) f ranges);
-      means = λ places here. inl (record { mnemonic = m; word = word; row = found.0; below = below; fits = eq-eqb _ _ found.1; only = refl; written = statement_written places here name (kinds_of m.syntax) f ranges });
+      line = is_line nowhere 0 name (kinds_of m.syntax) (text_by (Some m) word) f (name_bytes m (aq word)
+          (rl word) found.0) (name_some m (aq word) (rl word) found.0) (statement_written nowhere 0 name
+          (kinds_of m.syntax) f ranges);
+      means = λ places here. inl
+          (record { mnemonic = m; word = word; row = found.0; below = below; fits = eq-eqb _ _ found.1; only = refl; written = statement_written places here name (kinds_of m.syntax) f ranges });
     }
 
 text_is : (word : ℕ) → word < 2 ^ 32 → IsText (text_of word) word
@@ -122,7 +153,8 @@ text_is word below = is_text (mnemonic_of word) word below refl
 pub text_assembles : (word : ℕ) → word < 2 ^ 32 → Assembles (text_of word) (word ∷ [])
 text_assembles word below =
     let t = text_is word below in
-    program_by (text_of word) word t.line (statement_only (places_of (text_of word)) 0 (text_of word) (word ∷ []) (t.means (places_of (text_of word)) 0))
+    program_by (text_of word) word t.line (statement_only (places_of (text_of word)) 0 (text_of word) (word ∷ [])
+    (t.means (places_of (text_of word)) 0))
 
 pub text_is_one_line : (word : ℕ) → word < 2 ^ 32 → IsTrue (is_one_line (text_of word))
 text_is_one_line word below = one_line (text_of word) (text_is word below).line.bytes

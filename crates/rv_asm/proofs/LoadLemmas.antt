@@ -15,7 +15,10 @@ signed_12 : (n : ℕ) → n < 2 ^ 12 → IsSigned 12 (signed 12 n)
 signed_12 n l =
     elim (cases_lt n (2 ^ 11)) [
       | inl h ↦ let e : signed 12 n ≡ pos n = signed_low 12 n h in (omega (arith, ints), omega (arith, ints))
-      | inr h ↦ let e : signed 12 n ≡ negsuc (2 ^ 12 - suc n) = signed_high 12 n h l in (omega (arith, ints), omega (arith, ints))
+      | inr h ↦ let e : signed 12 n ≡ negsuc (2 ^ 12 - suc n) = signed_high 12 n h l in (
+        omega (arith, ints),
+        omega (arith, ints),
+      )
     ]
 
 pub lower_signed : (value : ℕ) → IsSigned 12 (lower_part value)
@@ -35,6 +38,7 @@ parts_sum n below =
           let e : unsigned 32 (lower_part n) ≡ n % 2 ^ 12 = ap (unsigned 32) (signed_low 12 (n % 2 ^ 12) low) in
           rw e (omega arith)
       | inr high ↦
-          let e : unsigned 32 (lower_part n) ≡ 2 ^ 32 - suc (2 ^ 12 - suc (n % 2 ^ 12)) = ap (unsigned 32) (signed_high 12 (n % 2 ^ 12) high (omega arith)) in
+          let e : unsigned 32 (lower_part n) ≡ 2 ^ 32 - suc (2 ^ 12 - suc (n % 2 ^ 12)) = ap (unsigned 32)
+          (signed_high 12 (n % 2 ^ 12) high (omega arith)) in
           rw e (omega arith)
     ]

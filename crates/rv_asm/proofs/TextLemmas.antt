@@ -19,7 +19,8 @@ use Rattle.rv_asm.specs.Reading.{with_sign, number_within, register_of}
 use Rattle.rv_asm.specs.Texts.{register_text, signed_text, upper_text, bracket_text, word_text, operand_text, operand_texts, statement_text}
 
 -- a statement after other text
-pub after_text : (front name : List ℕ) (kinds : List Kind) (f : Operands) → statement_text (front ++ name) kinds f ≡ front ++ statement_text name kinds f
+pub after_text : (front name : List ℕ) (kinds : List Kind) (f : Operands) →
+    statement_text (front ++ name) kinds f ≡ front ++ statement_text name kinds f
 unfolding statement_text
 after_text front name [] f = refl
 after_text front name (kind ∷ more) f = append_assoc front name (space ∷ operand_texts kind more f)
@@ -30,19 +31,28 @@ register_written : (r : ℕ) → r < 32 → register_of (register_text r) ≡ So
 unfolding register_of
 register_written r small = rw (decimal_each 31 (decimal r) r (omega arith) (omega arith) refl) refl
 
-number_by : (low high : ℕ) (text : List ℕ) → (get_or text 0 0 ≡ minus → ⊥) → (get_or text 0 0 ≡ 48 → ⊥) → number_within low high text ≡ with_sign false (decimal_within high text)
+number_by : (low high : ℕ) (text : List ℕ) → (get_or text 0 0 ≡ minus → ⊥) → (get_or text 0 0 ≡ 48 → ⊥) →
+    number_within low high text ≡ with_sign false (decimal_within high text)
 unfolding number_within
-number_by low high text no_sign no_zero = rw (ne_eqb (get_or text 0 0) minus no_sign, ne_eqb (get_or text 0 0) 48 no_zero) refl
+number_by low high text no_sign no_zero = rw (
+  ne_eqb (get_or text 0 0) minus no_sign,
+  ne_eqb (get_or text 0 0) 48 no_zero,
+) refl
 
 number_zero : (low high : ℕ) → number_within low high (48 ∷ []) ≡ with_sign false (decimal_within high (48 ∷ []))
 unfolding number_within
 number_zero low high = refl
 
 -- a decimal number has no sign, and no `0x` in front
-number_plain : (low high n : ℕ) → n < 2 ^ 64 → number_within low high (decimal n) ≡ with_sign false (decimal_within high (decimal n))
+number_plain : (low high n : ℕ) → n < 2 ^ 64 → number_within low high (decimal n)
+    ≡ with_sign false (decimal_within high (decimal n))
 number_plain low high n small =
     elim (cases_lt 0 n) [
-      | inl some ↦ number_by low high (decimal n) (λ e. omega (arith, e, first_decimal n some small)) (λ e. omega (arith, e, first_decimal n some small))
+      | inl some ↦ number_by low high (decimal n) (λ e. omega (
+        arith,
+        e,
+        first_decimal n some small,
+      )) (λ e. omega (arith, e, first_decimal n some small))
       | inr none ↦ let e : n ≡ 0 = omega arith in rw (e, decimal_digit 0 (omega arith)) (number_zero low high)
     ]
 
@@ -50,9 +60,11 @@ abbrev plain : ℕ → Number
 plain n = record { negative = false; magnitude = n }
 
 decimal_written : (low high n : ℕ) → n ≤ high → n < 2 ^ 64 → number_within low high (decimal n) ≡ Ok (plain n)
-decimal_written low high n small fits = number_plain low high n fits ∙ rw (decimal_each high (decimal n) n fits small refl) refl
+decimal_written low high n small fits = number_plain low high n fits
+    ∙ rw (decimal_each high (decimal n) n fits small refl) refl
 
-negative_written : (low high n : ℕ) → n ≤ low → n < 2 ^ 64 → number_within low high (minus ∷ decimal n) ≡ Ok (record { negative = true; magnitude = n })
+negative_written : (low high n : ℕ) → n ≤ low → n < 2 ^ 64 →
+    number_within low high (minus ∷ decimal n) ≡ Ok (record { negative = true; magnitude = n })
 unfolding number_within
 negative_written low high n small fits = rw (decimal_each low (decimal n) n fits small refl) refl
 
@@ -65,10 +77,20 @@ unfolding number_within
 word_written low high n small fits = rw (eight_digits_again high n small fits) refl
 
 signed_written : (z : ℤ) → IsSigned 12 z → IsSignedText (signed_text z) z
-signed_written (pos n) h = let le : n ≤ 2047 = omega (arith, ints, h.1) in (plain n, decimal_written 2048 2047 n le (omega arith), refl)
-signed_written (negsuc n) h = let le : suc n ≤ 2048 = omega (arith, ints, h.0) in (record { negative = true; magnitude = suc n }, negative_written 2048 2047 (suc n) le (omega arith), refl)
+signed_written (pos n) h = let le : n ≤ 2047 = omega (arith, ints, h.1) in (
+  plain n,
+  decimal_written 2048 2047 n le (omega arith),
+  refl,
+)
+signed_written (negsuc n) h = let le : suc n ≤ 2048 = omega (
+  arith,
+  ints,
+  h.0,
+) in (record { negative = true; magnitude = suc n }, negative_written 2048 2047 (suc n) le (omega arith), refl)
 
-target_written : (places : List ℕ → Option ℕ) (here low high half : ℕ) (z : ℤ) → low ≡ half → high + 2 ≡ half → half % 2 ≡ 0 → half < 2 ^ 32 → neg_ℤ (pos half) ≤ℤ z → z <ℤ pos half → unsigned_abs z % 2 ≡ 0 → IsTargetText places here low high (signed_text z) z
+target_written : (places : List ℕ → Option ℕ) (here low high half : ℕ) (z : ℤ) → low ≡ half → high + 2 ≡ half →
+    half % 2 ≡ 0 → half < 2 ^ 32 → neg_ℤ (pos half) ≤ℤ z → z <ℤ pos half → unsigned_abs z % 2 ≡ 0 →
+    IsTargetText places here low high (signed_text z) z
 target_written places here low high half (pos n) l h even small from to o =
     let below : n < half = omega (arith, ints, to) in
     let le : n ≤ high = omega (arith, below, o) in
@@ -91,7 +113,8 @@ bracket_written r small = (register_text r, refl, register_written r small)
 
 -- ---- operands
 
-operand_written : (places : List ℕ → Option ℕ) (here : ℕ) (kind : Kind) (f : Operands) → IsInRange kind f → IsOperandText places here kind (operand_text kind f) f
+operand_written : (places : List ℕ → Option ℕ) (here : ℕ) (kind : Kind) (f : Operands) → IsInRange kind f →
+    IsOperandText places here kind (operand_text kind f) f
 unfolding operand_text
 operand_written places here kinds.Rd f h = register_written f.rd h
 operand_written places here kinds.Rs1 f h = register_written f.rs1 h
@@ -101,20 +124,38 @@ operand_written places here kinds.Shift f h = unsigned_written 31 f.rs2 (omega a
 operand_written places here kinds.Small f h = unsigned_written 31 f.rs1 (omega arith) (omega arith)
 operand_written places here kinds.Csr f h = upper_is_unsigned 4095 f.wide (omega arith)
 operand_written places here kinds.Upper f h = upper_is_unsigned 0xFFFFF f.wide (omega arith)
-operand_written places here kinds.Branch f h = target_written places here 4096 4094 4096 f.imm refl refl refl (omega arith) h.0.0 h.0.1 h.1
+operand_written places here kinds.Branch f h = target_written places here 4096 4094 4096 f.imm refl refl refl
+    (omega arith) h.0.0 h.0.1 h.1
 operand_written places here kinds.Jump f h = target_written places here 1048576 1048574 1048576 f.imm refl refl refl (omega arith) h.0.0 h.0.1 h.1
-operand_written places here kinds.Address f h = (signed_text f.imm, bracket_text f.rs1, refl, signed_written f.imm h.0, bracket_written f.rs1 h.1)
+operand_written places here kinds.Address f h = (
+  signed_text f.imm,
+  bracket_text f.rs1,
+  refl,
+  signed_written f.imm h.0,
+  bracket_written f.rs1 h.1,
+)
 operand_written places here kinds.Base f h = bracket_written f.rs1 h
 operand_written places here kinds.Word f h = word_is_word f.wide h
 operand_written places here kinds.Value f h = inl (word_is_word f.wide h)
 
-operands_written : (places : List ℕ → Option ℕ) (here : ℕ) (kind : Kind) (more : List Kind) (f : Operands) → AreInRange (kind ∷ more) f → AreOperandTexts places here kind more (operand_texts kind more f) f
+operands_written : (places : List ℕ → Option ℕ) (here : ℕ) (kind : Kind) (more : List Kind) (f : Operands) →
+    AreInRange (kind ∷ more) f → AreOperandTexts places here kind more (operand_texts kind more f) f
 unfolding operand_texts
 operands_written places here kind [] f h = operand_written places here kind f h.0
-operands_written places here kind (next ∷ more) f h =
-    (operand_text kind f, operand_texts next more f, refl, operand_written places here kind f h.0, operands_written places here next more f h.1)
+operands_written places here kind (next ∷ more) f h = (
+  operand_text kind f,
+  operand_texts next more f,
+  refl,
+  operand_written places here kind f h.0,
+  operands_written places here next more f h.1,
+)
 
-pub statement_written : (places : List ℕ → Option ℕ) (here : ℕ) (name : List ℕ) (kinds : List Kind) (f : Operands) → AreInRange kinds f → IsStatementText places here name kinds (statement_text name kinds f) f
+pub statement_written : (places : List ℕ → Option ℕ) (here : ℕ) (name : List ℕ) (kinds : List Kind) (f : Operands) →
+    AreInRange kinds f → IsStatementText places here name kinds (statement_text name kinds f) f
 unfolding statement_text
 statement_written places here name [] f h = refl
-statement_written places here name (kind ∷ more) f h = (operand_texts kind more f, refl, operands_written places here kind more f h)
+statement_written places here name (kind ∷ more) f h = (
+  operand_texts kind more f,
+  refl,
+  operands_written places here kind more f h,
+)

@@ -28,7 +28,8 @@ IsUnsignedText high text m = (n : Number) × (number_within 0 high text ≡ Ok n
 abbrev pub IsTargetText : (List ℕ → Option ℕ) → ℕ → ℕ → ℕ → List ℕ → ℤ → Type 0
 IsTargetText places here low high text z =
     ((n : Number) × (number_within low high text ≡ Ok n) × (n.magnitude % 2 ≡ 0) × (value n ≡ z))
-    ⊎ ((place : ℕ) × (number_within low high text ≡ Err NoNumber) × IsLabelOf places text place × (near low high (distance here place) ≡ Ok z))
+    ⊎ ((place : ℕ) × (number_within low high text ≡ Err NoNumber) × IsLabelOf places text place
+    × (near low high (distance here place) ≡ Ok z))
 
 -- a number of a word, modulo 2^32
 abbrev pub IsWordText : List ℕ → ℕ → Type 0
@@ -38,14 +39,17 @@ IsWordText text m = (n : Number) × (number_within (2 ^ 31) (2 ^ 32 - 1) text �
 abbrev pub IsValueText : (List ℕ → Option ℕ) → List ℕ → ℕ → Type 0
 IsValueText places text m =
     IsWordText text m
-    ⊎ ((place : ℕ) × (number_within (2 ^ 31) (2 ^ 32 - 1) text ≡ Err NoNumber) × IsLabelOf places text place × (in_memory (address place) ≡ Ok m))
+    ⊎ ((place : ℕ) × (number_within (2 ^ 31) (2 ^ 32 - 1) text ≡ Err NoNumber)
+    × IsLabelOf places text place × (in_memory (address place) ≡ Ok m))
 
 -- a register in parentheses
 abbrev pub IsBracketText : List ℕ → ℕ → Type 0
-IsBracketText text r = (name : List ℕ) × (text ≡ left_parenthesis ∷ (name ++ right_parenthesis ∷ [])) × (register_of name ≡ Some r)
+IsBracketText text r = (name : List ℕ)
+    × (text ≡ left_parenthesis ∷ (name ++ right_parenthesis ∷ [])) × (register_of name ≡ Some r)
 
 abbrev pub IsAddressText : List ℕ → ℤ → ℕ → Type 0
-IsAddressText text z r = (offset : List ℕ) × (rest : List ℕ) × (text ≡ offset ++ rest) × IsSignedText offset z × IsBracketText rest r
+IsAddressText text z r = (offset : List ℕ) × (rest : List ℕ) × (text ≡ offset ++ rest)
+    × IsSignedText offset z × IsBracketText rest r
 
 -- the text is the operand of this kind that has these values
 abbrev pub IsOperandText : (List ℕ → Option ℕ) → ℕ → Kind → List ℕ → Operands → Type 0
@@ -68,38 +72,45 @@ IsOperandText places here kinds.Value text f = IsValueText places text f.wide
 abbrev pub AreOperandTexts : (List ℕ → Option ℕ) → ℕ → Kind → List Kind → List ℕ → Operands → Type 0
 AreOperandTexts places here kind [] text f = IsOperandText places here kind text f
 AreOperandTexts places here kind (next ∷ more) text f =
-    (first : List ℕ) × (rest : List ℕ) × (text ≡ first ++ comma ∷ space ∷ rest) × IsOperandText places here kind first f × AreOperandTexts places here next more rest f
+    (first : List ℕ) × (rest : List ℕ) × (text ≡ first ++ comma ∷ space ∷ rest)
+    × IsOperandText places here kind first f × AreOperandTexts places here next more rest f
 
 -- a name, and after a space its operands
-abbrev pub IsStatementText : (List ℕ → Option ℕ) → ℕ → List ℕ → List Kind → List ℕ → Operands → Type 0
+abbrev pub IsStatementText : (List ℕ → Option ℕ) → ℕ → List ℕ → List Kind → List ℕ → Operands
+    → Type 0
 IsStatementText places here name [] text f = text ≡ name
 IsStatementText places here name (kind ∷ more) text f =
     (rest : List ℕ) × (text ≡ name ++ space ∷ rest) × AreOperandTexts places here kind more rest f
 
 -- a word of an instruction with this name, and the operands of that word
-pub record IsInstruction (places : List ℕ → Option ℕ) (here : ℕ) (text words : List ℕ) : Type 0 where
+pub record IsInstruction (places : List ℕ
+    → Option ℕ) (here : ℕ) (text words : List ℕ) : Type 0 where
   pub mnemonic : Mnemonic
   pub word : ℕ
   pub row : Contains mnemonics mnemonic
   pub below : word < 2 ^ 32
   pub fits : IsTrue (fits mnemonic word)
   pub only : words ≡ word ∷ []
-  pub written : IsStatementText places here (name_text mnemonic (aq word) (rl word)) (kinds_of mnemonic.syntax) text (operands_of mnemonic.syntax word)
+  pub written : IsStatementText places here (name_text mnemonic (aq word) (rl word))
+      (kinds_of mnemonic.syntax) text (operands_of mnemonic.syntax word)
 
 -- `.word` and a number, for that word
 pub record IsData (places : List ℕ → Option ℕ) (here : ℕ) (text words : List ℕ) : Type 0 where
   pub word : ℕ
   pub only : words ≡ word ∷ []
-  pub written : IsStatementText places here (codes ".word") (kinds.Word ∷ []) text (record (blank false false) { wide = word })
+  pub written : IsStatementText places here (codes ".word") (kinds.Word ∷ []) text (record
+      (blank false false) { wide = word })
 
 -- `li`, a register and a number or a label, for LUI and ADDI
 pub record IsLoad (places : List ℕ → Option ℕ) (here : ℕ) (text words : List ℕ) : Type 0 where
   pub rd : ℕ
   pub number : ℕ
   pub both : words ≡ load_words rd number
-  pub written : IsStatementText places here (codes "li") (kinds.Rd ∷ kinds.Value ∷ []) text (record (blank false false) { rd = rd; wide = number })
+  pub written : IsStatementText places here (codes "li") (kinds.Rd ∷ kinds.Value ∷ []) text
+      (record (blank false false) { rd = rd; wide = number })
 
 -- the text stands for these words, where labels have these places and `here` words stand before it
 abbrev pub IsStatement : (List ℕ → Option ℕ) → ℕ → List ℕ → List ℕ → Type 0
 IsStatement places here text words =
-    IsInstruction places here text words ⊎ (IsData places here text words ⊎ IsLoad places here text words)
+    IsInstruction places here text words ⊎ (IsData places here text words
+    ⊎ IsLoad places here text words)

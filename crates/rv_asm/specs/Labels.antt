@@ -20,4 +20,5 @@ words_in labels = words_at (place_in labels)
 -- the places with that of a label added, unless it has one
 abbrev pub with_label : Option (List ℕ) → Place → (List ℕ → Option Place) → List ℕ → Option Place
 with_label None place places name = places name
-with_label (Some label) place places name = if bytes_eq label name then option_or (places name) (Some place) else places name
+with_label (Some label) place places name = if bytes_eq label name
+    then option_or (places name) (Some place) else places name

@@ -18,12 +18,17 @@ ends _ = false
 
 -- what stands before the colon that ends a word, where it has a label's form
 unfoldable pub label_of : List ℕ → Option (List ℕ)
-label_of text = if ends (cut colon text).after && is_label (cut colon text).before then Some (cut colon text).before else None
+label_of text = if ends (cut colon text).after
+    && is_label (cut colon text).before then Some (cut colon text).before else None
 
 -- after a label a statement stands behind one space
 abbrev pub line_with : Option (List ℕ) → List ℕ → Option (List ℕ) → Line
 line_with (Some label) text rest = record { label = Some label; statement = rest }
-line_with None text rest = record { label = None; statement = if length text == 0 then None else Some text }
+line_with None text rest = record {
+  label = None;
+  statement = if length text == 0 then None
+      else Some text;
+}
 
 unfoldable pub line_of : List ℕ → Line
 line_of text = line_with (label_of (cut space text).before) text (cut space text).after

@@ -33,7 +33,8 @@ abbrev pub word : Number → ℕ
 word n = if n.negative then (2 ^ 32 - n.magnitude) % 2 ^ 32 else n.magnitude
 
 -- what a number gives, or what else the text gives
-abbrev pub number_or : {X : Type 0} → Result Number NumberFault → (Number → Result X Why) → Result X Why → Result X Why
+abbrev pub number_or : {X : Type 0} → Result Number NumberFault → (Number → Result X Why)
+    → Result X Why → Result X Why
 number_or (Ok n) f other = f n
 number_or (Err TooLarge) f other = Err Range
 number_or (Err NoNumber) f other = other
@@ -45,7 +46,8 @@ unfoldable pub unsigned_number : ℕ → List ℕ → Result ℕ Why
 unsigned_number high text = number_or (number_within 0 high text) (λ n. Ok n.magnitude) (Err Word)
 
 unfoldable pub word_number : List ℕ → Result ℕ Why
-word_number text = number_or (number_within (2 ^ 31) (2 ^ 32 - 1) text) (λ n. Ok (word n)) (Err Word)
+word_number text = number_or (number_within (2 ^ 31) (2 ^ 32 - 1) text)
+    (λ n. Ok (word n)) (Err Word)
 
 -- ---- labels
 
@@ -72,14 +74,17 @@ abbrev pub even : Number → Result ℤ Why
 even n = if n.magnitude % 2 == 0 then Ok (value n) else Err Range
 
 abbrev pub near : ℕ → ℕ → Number → Result ℤ Why
-near low high n = if nat_le n.magnitude (if n.negative then low else high) then Ok (value n) else Err Range
+near low high n = if nat_le n.magnitude (if n.negative then low else high) then Ok (value n)
+    else Err Range
 
 unfoldable pub label_target : (List ℕ → Option ℕ) → ℕ → ℕ → ℕ → List ℕ → Result ℤ Why
-label_target places here low high text = named_place places text >>= λ place. near low high (distance here place)
+label_target places here low high text = named_place places text >>= λ place. near low high
+    (distance here place)
 
 -- a label, or an even distance
 unfoldable pub target : (List ℕ → Option ℕ) → ℕ → ℕ → ℕ → List ℕ → Result ℤ Why
-target places here low high text = number_or (number_within low high text) even (label_target places here low high text)
+target places here low high text = number_or (number_within low high text) even
+    (label_target places here low high text)
 
 abbrev pub in_memory : ℕ → Result ℕ Why
 in_memory address = if nat_le address (2 ^ 32 - 1) then Ok address else Err Range
@@ -89,7 +94,8 @@ label_value places text = named_place places text >>= λ place. in_memory (addre
 
 -- a label, or a number of a word
 unfoldable pub word_value : (List ℕ → Option ℕ) → List ℕ → Result ℕ Why
-word_value places text = number_or (number_within (2 ^ 31) (2 ^ 32 - 1) text) (λ n. Ok (word n)) (label_value places text)
+word_value places text = number_or (number_within (2 ^ 31) (2 ^ 32 - 1) text)
+    (λ n. Ok (word n)) (label_value places text)
 
 -- ---- registers in parentheses
 
@@ -102,7 +108,8 @@ closed (Some (_ ∷ _)) r = Err Word
 -- what stands after an opening parenthesis
 abbrev pub bracketed : Option (List ℕ) → Result ℕ Why
 bracketed None = Err Word
-bracketed (Some text) = register (cut right_parenthesis text).before >>= λ r. closed (cut right_parenthesis text).after r
+bracketed (Some text) = register (cut right_parenthesis text).before >>= λ r. closed
+    (cut right_parenthesis text).after r
 
 -- a number, and a register in parentheses
 abbrev pub address_by : Halves → Result (ℤ × ℕ) Why
@@ -129,10 +136,14 @@ operand places here kinds.Immediate text f = signed_number text >>= λ z. Ok (re
 operand places here kinds.Shift text f = unsigned_number 31 text >>= λ n. Ok (record f { rs2 = n })
 operand places here kinds.Small text f = unsigned_number 31 text >>= λ n. Ok (record f { rs1 = n })
 operand places here kinds.Csr text f = unsigned_number 4095 text >>= λ n. Ok (record f { wide = n })
-operand places here kinds.Upper text f = unsigned_number 0xFFFFF text >>= λ n. Ok (record f { wide = n })
-operand places here kinds.Branch text f = target places here 4096 4094 text >>= λ z. Ok (record f { imm = z })
-operand places here kinds.Jump text f = target places here 1048576 1048574 text >>= λ z. Ok (record f { imm = z })
-operand places here kinds.Address text f = address_parts text >>= λ p. Ok (record f { imm = p.0; rs1 = p.1 })
+operand places here kinds.Upper text f = unsigned_number 0xFFFFF text >>= λ n. Ok
+    (record f { wide = n })
+operand places here kinds.Branch text f = target places here 4096 4094 text >>= λ z. Ok
+    (record f { imm = z })
+operand places here kinds.Jump text f = target places here 1048576 1048574 text >>= λ z. Ok
+    (record f { imm = z })
+operand places here kinds.Address text f = address_parts text >>= λ p. Ok
+    (record f { imm = p.0; rs1 = p.1 })
 operand places here kinds.Base text f = base_register text >>= λ r. Ok (record f { rs1 = r })
 operand places here kinds.Word text f = word_number text >>= λ n. Ok (record f { wide = n })
 operand places here kinds.Value text f = word_value places text >>= λ n. Ok (record f { wide = n })
@@ -144,10 +155,14 @@ after_comma (Some []) = Err Word
 after_comma (Some (c ∷ cs)) = if c == space then Ok (Some cs) else Err Word
 
 -- an operand, and what stands after the comma that ends it
-abbrev pub next_by : (List ℕ → Option ℕ) → ℕ → Kind → Halves → Operands → Result (Operands × Option (List ℕ)) Why
-next_by places here kind halves f = operand places here kind halves.before f >>= λ g. after_comma halves.after >>= λ rest. Ok (g, rest)
+abbrev pub next_by : (List ℕ → Option ℕ) → ℕ → Kind → Halves → Operands
+    → Result (Operands × Option (List ℕ)) Why
+next_by places here kind halves f =
+    operand places here kind halves.before f >>= λ g. after_comma halves.after >>= λ rest. Ok
+    (g, rest)
 
-unfoldable pub next_operand : (List ℕ → Option ℕ) → ℕ → Kind → Option (List ℕ) → Operands → Result (Operands × Option (List ℕ)) Why
+unfoldable pub next_operand : (List ℕ → Option ℕ) → ℕ → Kind → Option (List ℕ) → Operands
+    → Result (Operands × Option (List ℕ)) Why
 next_operand places here kind None f = Err Word
 next_operand places here kind (Some text) f = next_by places here kind (cut comma text) f
 
@@ -156,9 +171,11 @@ finish None f = Ok f
 finish (Some _) f = Err Word
 
 -- the operands one after the other; one that is missing or left over stands at the end
-unfoldable pub operands : (List ℕ → Option ℕ) → ℕ → List Kind → Option (List ℕ) → Operands → Result Operands Why
+unfoldable pub operands : (List ℕ → Option ℕ) → ℕ → List Kind → Option (List ℕ) → Operands
+    → Result Operands Why
 operands places here [] text f = finish text f
-operands places here (kind ∷ more) text f = next_operand places here kind text f >>= λ next. operands places here more next.1 next.0
+operands places here (kind ∷ more) text f =
+    next_operand places here kind text f >>= λ next. operands places here more next.1 next.0
 
 -- what was read, as a clause sees it
 abbrev pub view_by : {X Y : Type 0} → (X → Y) → Result X Why → Result Y Why

@@ -49,12 +49,14 @@ and_later (Ok words) line later = with_before words later
 unfoldable pub program_from : (List ℕ → Option Place) → List (List ℕ) → ℕ → ℕ → Result (List ℕ) Bad
 program_from places [] index here = Ok []
 program_from places (text ∷ texts) index here =
-    and_later (line_words places index here text) (index + 1) (program_from places texts (index + 1) (here + word_count (line_of text).statement))
+    and_later (line_words places index here text) (index + 1) (program_from places texts
+    (index + 1) (here + word_count (line_of text).statement))
 
 unfoldable pub program : List (List ℕ) → Result (List ℕ) Bad
 program lines = program_from (place_of lines) lines 0 0
 
--- the lines are separated by newlines; an empty one has no words, so the last newline may be missing
+-- the lines are separated by newlines; an empty one has no words, so the last newline may be
+-- missing
 abbrev pub lines_of : List ℕ → List (List ℕ)
 lines_of text = slice_split (λ byte. byte == newline) text
 

@@ -12,7 +12,8 @@ abbrev pub with_sign : Bool → Result ℕ NumberFault → Result Number NumberF
 with_sign negative (Ok n) = Ok (record { negative = negative; magnitude = n })
 with_sign negative (Err fault) = Err fault
 
--- a number from minus the first bound to the second: `-` and a decimal number, `0x` and hexadecimal digits, or a decimal number
+-- a number from minus the first bound to the second: `-` and a decimal number, `0x` and hexadecimal
+-- digits, or a decimal number
 unfoldable pub number_within : ℕ → ℕ → List ℕ → Result Number NumberFault
 number_within low high text =
     if slice_index text 0 == minus

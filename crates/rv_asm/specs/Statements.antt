@@ -31,16 +31,20 @@ abbrev pub load_words : ℕ → ℕ → List ℕ
 load_words rd n = isa.word_of (Lui rd (upper_part n)) ∷ isa.word_of (Addi rd rd (lower_part n)) ∷ []
 
 abbrev pub data_words : (List ℕ → Option ℕ) → ℕ → Option (List ℕ) → Result (List ℕ) Why
-data_words places here rest = operands places here (kinds.Word ∷ []) rest (blank false false) >>= λ f. Ok (f.wide ∷ [])
+data_words places here rest = operands places here (kinds.Word ∷ []) rest
+    (blank false false) >>= λ f. Ok (f.wide ∷ [])
 
 abbrev pub li_words : (List ℕ → Option ℕ) → ℕ → Option (List ℕ) → Result (List ℕ) Why
-li_words places here rest = operands places here (kinds.Rd ∷ kinds.Value ∷ []) rest (blank false false) >>= λ f. Ok (load_words f.rd f.wide)
+li_words places here rest = operands places here (kinds.Rd ∷ kinds.Value ∷ []) rest
+    (blank false false) >>= λ f. Ok (load_words f.rd f.wide)
 
 -- the word of the instruction with this name
-abbrev pub instruction_words : (List ℕ → Option ℕ) → ℕ → Option Name → Option (List ℕ) → Result (List ℕ) Why
+abbrev pub instruction_words : (List ℕ → Option ℕ) → ℕ → Option Name → Option (List ℕ)
+    → Result (List ℕ) Why
 instruction_words places here None rest = Err Word
 instruction_words places here (Some n) rest =
-    operands places here (kinds_of n.mnemonic.syntax) rest (blank n.aq n.rl) >>= λ f. Ok (word_of n.mnemonic.syntax n.mnemonic.value f ∷ [])
+    operands places here (kinds_of n.mnemonic.syntax) rest (blank n.aq n.rl) >>= λ f. Ok
+    (word_of n.mnemonic.syntax n.mnemonic.value f ∷ [])
 
 -- a name, and after a space its operands
 abbrev pub words_by : (List ℕ → Option ℕ) → ℕ → Halves → Result (List ℕ) Why

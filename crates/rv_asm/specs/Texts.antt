@@ -49,7 +49,8 @@ operand_text kinds.Value f = word_text f.wide
 -- the operands, a comma and a space between them
 unfoldable pub operand_texts : Kind → List Kind → Operands → List ℕ
 operand_texts kind [] f = operand_text kind f
-operand_texts kind (next ∷ more) f = operand_text kind f ++ (comma ∷ space ∷ operand_texts next more f)
+operand_texts kind (next ∷ more) f = operand_text kind f
+    ++ (comma ∷ space ∷ operand_texts next more f)
 
 -- a name, and after a space its operands
 unfoldable pub statement_text : List ℕ → List Kind → Operands → List ℕ
@@ -58,12 +59,14 @@ statement_text name (kind ∷ more) f = name ++ (space ∷ operand_texts kind mo
 
 -- the word as a number
 abbrev pub data_text : ℕ → List ℕ
-data_text word = statement_text (codes ".word") (kinds.Word ∷ []) (record (blank false false) { wide = word })
+data_text word = statement_text (codes ".word") (kinds.Word ∷ []) (record
+    (blank false false) { wide = word })
 
 -- the statement of the instruction that the word is, or the word as a number where it has none
 abbrev pub text_by : Option Mnemonic → ℕ → List ℕ
 text_by None word = data_text word
-text_by (Some m) word = statement_text (name_text m (aq word) (rl word)) (kinds_of m.syntax) (operands_of m.syntax word)
+text_by (Some m) word = statement_text (name_text m (aq word) (rl word)) (kinds_of m.syntax)
+    (operands_of m.syntax word)
 
 unfoldable pub text_of : ℕ → List ℕ
 text_of word = text_by (mnemonic_of word) word

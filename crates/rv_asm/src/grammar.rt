@@ -9,14 +9,19 @@ ghost use Rattle.rv_asm.specs.Statements.{statement, upper_part, lower_part};
 
 /// A text stands by the grammar for exactly the words that reading it from left to right gives.
 pub fn grammar_is_read()
-    ensures found { (places : List ℕ → Option ℕ) (here : ℕ) (text words : List ℕ) → statement places here text ≡ Ok words → IsStatement places here text words }
-    ensures only { (places : List ℕ → Option ℕ) (here : ℕ) (text words : List ℕ) → IsStatement places here text words → statement places here text ≡ Ok words }
+    ensures found { (places : List ℕ → Option ℕ) (here : ℕ) (text words : List ℕ)
+        → statement places here text ≡ Ok words → IsStatement places here text words }
+    ensures only { (places : List ℕ → Option ℕ) (here : ℕ) (text words : List ℕ)
+        → IsStatement places here text words → statement places here text ≡ Ok words }
 {}
 
-/// The words of `li` are LUI and ADDI to the register, and what LUI puts there and the sign-extended number
-/// that ADDI adds give the number, modulo 2^32.
+/// The words of `li` are LUI and ADDI to the register, and what LUI puts there and the
+/// sign-extended number that ADDI adds give the number, modulo 2^32.
 pub fn li_loads_its_number()
-    ensures upper { (rd n : ℕ) → rd < 32 → decode (word_of (Lui rd (upper_part n))) ≡ Some (Lui rd (upper_part n)) }
-    ensures lower { (rd n : ℕ) → rd < 32 → decode (word_of (Addi rd rd (lower_part n))) ≡ Some (Addi rd rd (lower_part n)) }
-    ensures sum { (n : ℕ) → n < 2 ^ 32 → (upper_part n * 2 ^ 12 + unsigned 32 (lower_part n)) % 2 ^ 32 ≡ n }
+    ensures upper { (rd n : ℕ) → rd < 32
+        → decode (word_of (Lui rd (upper_part n))) ≡ Some (Lui rd (upper_part n)) }
+    ensures lower { (rd n : ℕ) → rd < 32
+        → decode (word_of (Addi rd rd (lower_part n))) ≡ Some (Addi rd rd (lower_part n)) }
+    ensures sum { (n : ℕ) → n < 2 ^ 32
+        → (upper_part n * 2 ^ 12 + unsigned 32 (lower_part n)) % 2 ^ 32 ≡ n }
 {}

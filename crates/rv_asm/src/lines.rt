@@ -73,7 +73,9 @@ fn add_label<'t>(
     label: Option<&'t [u8]>,
     place: Place,
 ) -> Result<(), AllocError>
-    ensures { OnOk result ((name : List ℕ) → place_in labels.new name ≡ with_label (option_copied label.entry) place (place_in labels.old) name) }
+    ensures { OnOk result ((name : List ℕ)
+        → place_in labels.new name
+        ≡ with_label (option_copied label.entry) place (place_in labels.old) name) }
 {
     let Some(label) = label else {
         return Ok(());
@@ -86,7 +88,8 @@ fn add_label<'t>(
 
 /// The labels of the lines, each with its first place.
 pub fn labels_of<'t>(alloc: Global, lines: &[&'t str]) -> Result<Labels<'t>, AllocError>
-    ensures places { IfOk result (λ labels. (name : List ℕ) → place_in labels name ≡ place_of (map (λ line. line.now) lines.now) name) }
+    ensures places { IfOk result (λ labels. (name : List ℕ)
+        → place_in labels name ≡ place_of (map (λ line. line.now) lines.now) name) }
 {
     let mut labels = BTreeMap::new(alloc);
     let mut words = 0u64;

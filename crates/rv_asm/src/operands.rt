@@ -156,7 +156,8 @@ fn label_target<'t>(
 ) -> Result<i32, Why>
     requires low { low < 2 ^ 31 }
     requires high { high < 2 ^ 31 }
-    ensures { result ≡ label_target (words_in context.now.labels.now) context.now.here low high text.now }
+    ensures { result ≡ label_target
+        (words_in context.now.labels.now) context.now.here low high text.now }
 {
     let place = named_place(context, text)?;
     near(low, high, context.here, place)
@@ -263,7 +264,8 @@ fn operand<'t>(
     text: &'t [u8],
     values: Operands,
 ) -> Result<Operands, Why>
-    ensures { result ≡ operand (words_in context.now.labels.now) context.now.here kind text.now values }
+    ensures { result ≡ operand
+        (words_in context.now.labels.now) context.now.here kind text.now values }
 {
     let mut values = values;
     match kind {
@@ -305,7 +307,8 @@ fn next_operand<'t>(
     values: Operands,
 ) -> Result<(Operands, Option<&'t [u8]>), Why>
     ensures { view_by (λ next. (next.0, option_copied next.1)) result
-        ≡ next_operand (words_in context.now.labels.now) context.now.here kind (option_copied text.entry) values }
+        ≡ next_operand (words_in context.now.labels.now) context.now.here kind
+        (option_copied text.entry) values }
 {
     match text {
         None => Err(Why::Word),
@@ -336,7 +339,8 @@ pub fn operands<'t>(
     text: Option<&'t [u8]>,
     values: Operands,
 ) -> Result<Operands, Why>
-    ensures { result ≡ operands (words_in context.now.labels.now) context.now.here kinds.now (option_copied text.entry) values }
+    ensures { result ≡ operands (words_in context.now.labels.now) context.now.here kinds.now
+        (option_copied text.entry) values }
 {
     match kinds {
         [] => finish(text, values),

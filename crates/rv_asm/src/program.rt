@@ -64,8 +64,11 @@ fn push_statement<'t>(
     text: Option<&'t [u8]>,
 ) -> Result<(), AsmFault>
     requires { index + 1 < 2 ^ 64 }
-    ensures written { OnOk result (WritesWords (statement_words (words_in context.now.labels.now) context.now.here (option_copied text.entry)) bytes.old.items bytes.new.items) }
-    ensures fault { IfErr result (IsFaultOf (statement_words (words_in context.now.labels.now) context.now.here (option_copied text.entry)) index) }
+    ensures written { OnOk result (WritesWords (statement_words
+        (words_in context.now.labels.now) context.now.here
+        (option_copied text.entry)) bytes.old.items bytes.new.items) }
+    ensures fault { IfErr result (IsFaultOf (statement_words
+        (words_in context.now.labels.now) context.now.here (option_copied text.entry)) index) }
 {
     let Some(text) = text else {
         return Ok(());
@@ -91,8 +94,10 @@ fn push_line<'t>(
     text: &'t [u8],
 ) -> Result<(), AsmFault>
     requires { index + 1 < 2 ^ 64 }
-    ensures written { OnOk result (WritesWords (line_words (place_in context.now.labels.now) index context.now.here text.now) bytes.old.items bytes.new.items) }
-    ensures fault { IfErr result (IsFaultOf (line_words (place_in context.now.labels.now) index context.now.here text.now) index) }
+    ensures written { OnOk result (WritesWords (line_words
+        (place_in context.now.labels.now) index context.now.here text.now) bytes.old.items bytes.new.items) }
+    ensures fault { IfErr result (IsFaultOf (line_words
+        (place_in context.now.labels.now) index context.now.here text.now) index) }
 {
     let line = line_of(text);
     if label_is_given(context.labels, index, line.label) {
@@ -106,7 +111,8 @@ fn push_line<'t>(
 
 /// The bytes of the words of the lines, or the first bad line.
 fn assemble_lines(alloc: Global, lines: &[&str]) -> Result<Vec<u8>, AsmFault>
-    ensures words { IfOk result (λ bytes. HaveBytes (map (λ line. line.now) lines.now) bytes.items) }
+    ensures words { IfOk result (λ bytes. HaveBytes (map
+        (λ line. line.now) lines.now) bytes.items) }
     ensures fault { IfErr result (HaveFault (map (λ line. line.now) lines.now)) }
 {
     let labels = labels_of(alloc, lines)?;
@@ -131,17 +137,18 @@ fn lines_of(alloc: Global, text: &str) -> Result<Vec<&str>, AllocError>
     text.split('\n').collect(alloc)
 }
 
-/// The bytes of the words that a text's statements stand for, each word little-endian, or the text's
-/// first bad line, counted from 1, with its first fault.
+/// The bytes of the words that a text's statements stand for, each word little-endian, or the
+/// text's first bad line, counted from 1, with its first fault.
 ///
-/// A line is an optional `name:`, and after it, behind one space, or alone, a statement: an instruction's
-/// name in small letters, a space, and its operands with a comma and a space between them. `.word` is a
-/// number, and `li` is LUI and ADDI. The first word stands at 0x80000000.
+/// A line is an optional `name:`, and after it, behind one space, or alone, a statement: an
+/// instruction's name in small letters, a space, and its operands with a comma and a space between
+/// them. `.word` is a number, and `li` is LUI and ADDI. The first word stands at 0x80000000.
 pub fn assemble(alloc: Global, text: &str) -> Result<Vec<u8>, AsmFault>
     ensures words { IfOk result (λ bytes. AreBytesOf text.now bytes.items) }
 
     // The text has no other words.
-    ensures only { IfOk result (λ bytes. (words : List ℕ) → Assembles text.now words → bytes.items ≡ bytes_of words) }
+    ensures only { IfOk result (λ bytes. (words : List ℕ) → Assembles text.now words
+        → bytes.items ≡ bytes_of words) }
     ensures fault { IfErr result (IsFirstFault text.now) }
 {
     let lines = lines_of(alloc, text)?;

@@ -27,8 +27,8 @@ fn with_sign(negative: bool, read: Result<u64, NumberFault>) -> Result<Number, N
     })
 }
 
-/// The number from -`low` to `high` that the text writes: `-` and a decimal number, `0x` and hexadecimal
-/// digits, or a decimal number.
+/// The number from -`low` to `high` that the text writes: `-` and a decimal number, `0x` and
+/// hexadecimal digits, or a decimal number.
 #[tactic(auto, unfolding(crate::specs::Reading::number_within))]
 pub fn number_within(low: u64, high: u64, text: &[u8]) -> Result<Number, NumberFault>
     ensures exact { result ≡ number_within low high text.now }

@@ -38,7 +38,8 @@ fn blank(aq: bool, rl: bool) -> Operands
 
 /// The word that `.word` gives.
 fn data_words<'t>(context: &Context<'_, 't>, rest: Option<&'t [u8]>) -> Result<Words, Why>
-    ensures { view_by words_of result ≡ data_words (words_in context.now.labels.now) context.now.here (option_copied rest.entry) }
+    ensures { view_by words_of result
+        ≡ data_words (words_in context.now.labels.now) context.now.here (option_copied rest.entry) }
 {
     let values = operands(context, &[Kind::Word], rest, blank(false, false))?;
     Ok(Words::One(values.wide))
@@ -46,7 +47,8 @@ fn data_words<'t>(context: &Context<'_, 't>, rest: Option<&'t [u8]>) -> Result<W
 
 /// The two words that `li` stands for.
 fn li_words<'t>(context: &Context<'_, 't>, rest: Option<&'t [u8]>) -> Result<Words, Why>
-    ensures { view_by words_of result ≡ li_words (words_in context.now.labels.now) context.now.here (option_copied rest.entry) }
+    ensures { view_by words_of result
+        ≡ li_words (words_in context.now.labels.now) context.now.here (option_copied rest.entry) }
 {
     let values = operands(context, &[Kind::Rd, Kind::Value], rest, blank(false, false))?;
     let (upper, lower) = load_words(values.rd, values.wide);
@@ -60,7 +62,8 @@ fn instruction_words<'t>(
     rest: Option<&'t [u8]>,
 ) -> Result<Words, Why>
     ensures { view_by words_of result
-        ≡ instruction_words (words_in context.now.labels.now) context.now.here (option_map name_of_code name) (option_copied rest.entry) }
+        ≡ instruction_words (words_in context.now.labels.now) context.now.here
+        (option_map name_of_code name) (option_copied rest.entry) }
 {
     match name {
         None => Err(Why::Word),
@@ -75,7 +78,8 @@ fn instruction_words<'t>(
 /// The words of a statement, or its first fault.
 #[tactic(auto, unfolding(crate::specs::Statements::statement))]
 pub fn statement<'t>(context: &Context<'_, 't>, text: &'t [u8]) -> Result<Words, Why>
-    ensures { view_by words_of result ≡ statement (words_in context.now.labels.now) context.now.here text.now }
+    ensures { view_by words_of result
+        ≡ statement (words_in context.now.labels.now) context.now.here text.now }
 {
     let (name, rest) = cut(text, b' ');
     if name == b".word".as_slice() {

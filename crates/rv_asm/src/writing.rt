@@ -26,7 +26,8 @@ fn push_decimal(into: &mut String, number: u32) -> Result<(), NoMemory>
 
 /// Appends a register's name.
 fn push_register(into: &mut String, register: u8) -> Result<(), NoMemory>
-    ensures ok { OnOk result (string_bytes into.new ≡ string_bytes into.old ++ register_text register) }
+    ensures ok { OnOk result (string_bytes into.new
+        ≡ string_bytes into.old ++ register_text register) }
     ensures err { OnErr result (Begins (string_bytes into.old) (string_bytes into.new)) }
 {
     into.push_str("x")?;
@@ -66,7 +67,8 @@ fn push_word(into: &mut String, number: u32) -> Result<(), NoMemory>
 
 /// Appends a register's name in parentheses.
 fn push_bracket(into: &mut String, register: u8) -> Result<(), NoMemory>
-    ensures ok { OnOk result (string_bytes into.new ≡ string_bytes into.old ++ bracket_text register) }
+    ensures ok { OnOk result (string_bytes into.new
+        ≡ string_bytes into.old ++ bracket_text register) }
     ensures err { OnErr result (Begins (string_bytes into.old) (string_bytes into.new)) }
 {
     into.push_str("(")?;
@@ -77,7 +79,8 @@ fn push_bracket(into: &mut String, register: u8) -> Result<(), NoMemory>
 
 /// Appends an address: a number, and a register's name in parentheses.
 fn push_address(into: &mut String, offset: i32, register: u8) -> Result<(), NoMemory>
-    ensures ok { OnOk result (string_bytes into.new ≡ string_bytes into.old ++ (signed_text offset ++ bracket_text register)) }
+    ensures ok { OnOk result (string_bytes into.new
+        ≡ string_bytes into.old ++ (signed_text offset ++ bracket_text register)) }
     ensures err { OnErr result (Begins (string_bytes into.old) (string_bytes into.new)) }
 {
     push_signed(into, offset)?;
@@ -87,7 +90,8 @@ fn push_address(into: &mut String, offset: i32, register: u8) -> Result<(), NoMe
 /// Appends an operand of this kind.
 #[tactic(auto, unfolding(crate::specs::Texts::operand_text))]
 fn push_operand(into: &mut String, kind: Kind, values: Operands) -> Result<(), NoMemory>
-    ensures ok { OnOk result (string_bytes into.new ≡ string_bytes into.old ++ operand_text kind values) }
+    ensures ok { OnOk result (string_bytes into.new
+        ≡ string_bytes into.old ++ operand_text kind values) }
     ensures err { OnErr result (Begins (string_bytes into.old) (string_bytes into.new)) }
 {
     match kind {
@@ -112,7 +116,8 @@ fn push_operands(
     more: &[Kind],
     values: Operands,
 ) -> Result<(), NoMemory>
-    ensures ok { OnOk result (string_bytes into.new ≡ string_bytes into.old ++ operand_texts kind more.now values) }
+    ensures ok { OnOk result (string_bytes into.new
+        ≡ string_bytes into.old ++ operand_texts kind more.now values) }
     ensures err { OnErr result (Begins (string_bytes into.old) (string_bytes into.new)) }
 {
     push_operand(into, kind, values)?;
@@ -128,7 +133,8 @@ fn push_operands(
 /// Appends the operands after a name, if there are any.
 #[tactic(auto, unfolding(crate::specs::Texts::statement_text))]
 fn push_after_name(into: &mut String, kinds: &[Kind], values: Operands) -> Result<(), NoMemory>
-    ensures ok { OnOk result (string_bytes into.new ≡ statement_text (string_bytes into.old) kinds.now values) }
+    ensures ok { OnOk result (string_bytes into.new
+        ≡ statement_text (string_bytes into.old) kinds.now values) }
     ensures err { OnErr result (Begins (string_bytes into.old) (string_bytes into.new)) }
 {
     match kinds {
@@ -151,7 +157,8 @@ fn push_data(into: &mut String, word: u32) -> Result<(), NoMemory>
 
 /// Appends the statement of the instruction that the word is.
 fn push_instruction(into: &mut String, row: Mnemonic, word: u32) -> Result<(), NoMemory>
-    ensures ok { OnOk result (string_bytes into.new ≡ string_bytes into.old ++ text_by (Some (mnemonic row)) word) }
+    ensures ok { OnOk result (string_bytes into.new
+        ≡ string_bytes into.old ++ text_by (Some (mnemonic row)) word) }
     ensures err { OnErr result (Begins (string_bytes into.old) (string_bytes into.new)) }
 {
     let values = operands_of(row.syntax, word);
@@ -176,10 +183,10 @@ fn push_text(word: u32, into: &mut String) -> Result<(), NoMemory>
     }
 }
 
-/// Appends the text of a word, one line that assembles to it: the statement of its instruction with `x`
-/// names, immediates and distances in decimal, CSR numbers and the upper 20 bits of LUI and AUIPC as `0x`
-/// and upper case digits without needless zeros, or `.word` with eight upper case digits where the word
-/// is no instruction or, as a fence with other bits, one without a statement.
+/// Appends the text of a word, one line that assembles to it: the statement of its instruction with
+/// `x` names, immediates and distances in decimal, CSR numbers and the upper 20 bits of LUI and
+/// AUIPC as `0x` and upper case digits without needless zeros, or `.word` with eight upper case
+/// digits where the word is no instruction or, as a fence with other bits, one without a statement.
 pub fn disassemble(word: u32, into: &mut String) -> Result<(), NoMemory>
     ensures ok { OnOk result (string_bytes into.new ≡ string_bytes into.old ++ text_of word) }
 

@@ -24,19 +24,22 @@ pub record Alike {S T : Type 0} (a : Acts S) (b : Acts T) (R : S → T → Type 
   pub stored : (s : S) (t : T) → R s t → (addr width v : ℕ) → R (a.stored s addr width v) (b.stored t addr width v)
 
 -- two results that differ in the bus alone, and there by related states
-pub record IsRelated {S T : Type 0} (R : S → T → Type 0) (y : ExecutionResult S) (z : ExecutionResult T) : Type 0 where
+pub record IsRelated {S T : Type 0} (R : S → T → Type 0) (y : ExecutionResult S)
+    (z : ExecutionResult T) : Type 0 where
   pub outcome : y.outcome ≡ z.outcome
   pub hart : y.hart ≡ z.hart
   pub csrs : y.csrs ≡ z.csrs
   pub bus : R y.bus z.bus
 
 -- the same with what holds of the first alone
-pub record Follows {S T : Type 0} (a : Acts S) (R : S → T → Type 0) (c : CsrState) (s : S) (y : ExecutionResult S) (z : ExecutionResult T) : Type 0 where
+pub record Follows {S T : Type 0} (a : Acts S) (R : S → T →
+    Type 0) (c : CsrState) (s : S) (y : ExecutionResult S) (z : ExecutionResult T) : Type 0 where
   pub related : IsRelated R y z
   pub one_store : IsOneStore a s y.bus
   pub lines : KeepsLines c y.csrs
 
-module _ {S T : Type 0} (a : Acts S) (b : Acts T) (R : S → T → Type 0) (alike : Alike a b R) (h : Regs) (c : CsrState) (s : S) (t : T) (r : R s t) (w : ℕ) where
+module _ {S T : Type 0} (a : Acts S) (b : Acts T) (R : S → T →
+    Type 0) (alike : Alike a b R) (h : Regs) (c : CsrState) (s : S) (t : T) (r : R s t) (w : ℕ) where
   abbrev Same : ExecutionResult S → ExecutionResult T → Type 0
   Same y z = Follows a R c s y z
 
@@ -56,7 +59,8 @@ module _ {S T : Type 0} (a : Acts S) (b : Acts T) (R : S → T → Type 0) (alik
 
   -- the CSRs too
   csr_same : (d : CsrResult) → KeepsLines c d.csrs
-      → Same (record { outcome = d.outcome; hart = d.hart; csrs = d.csrs; bus = s }) (record { outcome = d.outcome; hart = d.hart; csrs = d.csrs; bus = t })
+      → Same (record { outcome = d.outcome; hart = d.hart; csrs = d.csrs; bus = s })
+      (record { outcome = d.outcome; hart = d.hart; csrs = d.csrs; bus = t })
   csr_same d k = record {
     related = record { outcome = refl; hart = refl; csrs = refl; bus = r };
     one_store = inl refl;
@@ -64,7 +68,8 @@ module _ {S T : Type 0} (a : Acts S) (b : Acts T) (R : S → T → Type 0) (alik
   }
 
   written_keeps : (rd csr : ℕ) (change : ℕ → ℕ) (old : ℕ) (p : Bool)
-      → KeepsLines c (if p then with_csrs (write_rd h rd old) (write_csr c csr (change old)) else raise_illegal h c w).csrs
+      → KeepsLines c (if p then with_csrs (write_rd h rd old) (write_csr c csr
+      (change old)) else raise_illegal h c w).csrs
   written_keeps rd csr change old true = keeps_lines_written c csr (change old)
   written_keeps rd csr change old false = keeps_lines_same c
 
@@ -81,7 +86,8 @@ module _ {S T : Type 0} (a : Acts S) (b : Acts T) (R : S → T → Type 0) (alik
   over_b d = record { outcome = d.outcome; hart = d.hart; csrs = c; bus = d.bus }
 
   bus_kept : (o : Outcome) (k : Regs)
-      → Same (record { outcome = o; hart = k; csrs = c; bus = s }) (record { outcome = o; hart = k; csrs = c; bus = t })
+      → Same (record { outcome = o; hart = k; csrs = c; bus = s })
+      (record { outcome = o; hart = k; csrs = c; bus = t })
   bus_kept o k = hart_only_same (record { outcome = o; hart = k })
 
   bus_stored : (o : Outcome) (k : Regs) (addr width v : ℕ) → (width ≡ 1) ⊎ ((width ≡ 2) ⊎ (width ≡ 4))
@@ -105,14 +111,16 @@ module _ {S T : Type 0} (a : Acts S) (b : Acts T) (R : S → T → Type 0) (alik
       (only_b (write_loaded h rd extend (load_at b t addr width)))
   load_same rd addr width extend =
       let e : load_at a s addr width ≡ load_at b t addr width =
-      ap (λ o. if addr % width == 0 then ok_or o (Trap load_access_fault addr) else Err (Trap load_address_misaligned addr))
+      ap (λ o. if addr % width == 0 then ok_or o (Trap load_access_fault addr) else Err
+      (Trap load_address_misaligned addr))
       (alike.loaded s t r addr width) in
       load_by rd extend _ _ e
 
   -- LR
   word_same : (misaligned fault addr : ℕ) → word_at a s misaligned fault addr ≡ word_at b t misaligned fault addr
   word_same misaligned fault addr =
-      ap (λ o. if addr % 4 == 0 then ok_or o (Trap fault addr) else Err (Trap misaligned addr)) (alike.fetched s t r addr)
+      ap (λ o. if addr % 4 == 0 then ok_or o (Trap fault addr) else Err (Trap misaligned addr))
+      (alike.fetched s t r addr)
 
   load_reserved_by : (rd addr : ℕ) (l m : Result ℕ Outcome) → l ≡ m
       → Same (only_a (load_reserved h rd addr l)) (only_b (load_reserved h rd addr m))
@@ -157,11 +165,13 @@ module _ {S T : Type 0} (a : Acts S) (b : Acts T) (R : S → T → Type 0) (alik
   -- SC
   sc_a : ℕ → ℕ → ℕ → Bool → BusResult S
   sc_a rd addr v p =
-      if p then with_bus (write_rd (unreserve h) rd 0) (a.stored s addr 4 v) else with_bus (write_rd (unreserve h) rd 1) s
+      if p then with_bus (write_rd (unreserve h) rd 0) (a.stored s addr 4 v) else with_bus (write_rd
+      (unreserve h) rd 1) s
 
   sc_b : ℕ → ℕ → ℕ → Bool → BusResult T
   sc_b rd addr v p =
-      if p then with_bus (write_rd (unreserve h) rd 0) (b.stored t addr 4 v) else with_bus (write_rd (unreserve h) rd 1) t
+      if p then with_bus (write_rd (unreserve h) rd 0) (b.stored t addr 4 v) else with_bus (write_rd
+      (unreserve h) rd 1) t
 
   sc_taken : (rd addr v : ℕ) (p : Bool) → Same (over_a (sc_a rd addr v p)) (over_b (sc_b rd addr v p))
   unfolding sc_a sc_b
@@ -192,7 +202,8 @@ module _ {S T : Type 0} (a : Acts S) (b : Acts T) (R : S → T → Type 0) (alik
       → Same (over_a (modify a h s rd addr new (word_to_modify a s addr)))
       (over_b (modify b h t rd addr new (word_to_modify b t addr)))
   amo_same rd addr new =
-      subst (λ z. Same (over_a (modify a h s rd addr new (word_to_modify a s addr))) (over_b (modify b h t rd addr new z)))
+      subst (λ z. Same (over_a (modify a h s rd addr new (word_to_modify a s addr))) (over_b
+      (modify b h t rd addr new z)))
       (word_same store_address_misaligned store_access_fault addr)
       (amo_by rd addr new (word_to_modify a s addr))
 
@@ -269,7 +280,8 @@ module _ {S T : Type 0} (a : Acts S) (b : Acts T) (R : S → T → Type 0) (alik
   related (AmoMaxu rd rs1 rs2 aq rl) = amo_same rd _ _
 
 -- related buses give equal effects and related buses
-pub effects_related : {S T : Type 0} (a : Acts S) (b : Acts T) (R : S → T → Type 0) → Alike a b R → (h : Regs) (c : CsrState)
+pub effects_related : {S T : Type 0} (a : Acts S) (b : Acts T) (R : S → T → Type 0) → Alike a b R →
+    (h : Regs) (c : CsrState)
     (s : S) (t : T) → R s t → (w : ℕ) (i : Instr) → IsRelated R (effect a h c s w i) (effect b h c t w i)
 effects_related a b R alike h c s t r w i = (related a b R alike h c s t r w i).related
 

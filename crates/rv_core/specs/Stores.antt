@@ -1,5 +1,5 @@
--- The store that an instruction makes, where it makes one: what may run out of memory, and what the bus is
--- afterwards (RISC-V unprivileged, RV32I, 2.6 "Load and Store Instructions", and A).
+-- The store that an instruction makes, where it makes one: what may run out of memory, and what the
+-- bus is afterwards (RISC-V unprivileged, RV32I, 2.6 "Load and Store Instructions", and A).
 use Rattle.std.specs.Prelude.{◌≡◌, ℕ, ◌⊎◌, true, Option, Some, None, bit_and, bit_or, bit_xor}
 use Rattle.std.specs.Option.{option_map}
 use Rattle.rv_isa.specs.declared.instr.Instr.{Instr}
@@ -32,14 +32,22 @@ request_of b h s (Sw rs1 rs2 imm) =
     Some (store_request (add_signed (x_of h rs1) imm) 4 (x_of h rs2))
 request_of b h s (Sc rd rs1 rs2 aq rl) = Some (store_request (x_of h rs1) 4 (x_of h rs2))
 request_of b h s (AmoSwap rd rs1 rs2 aq rl) = amo_request b s (x_of h rs1) (λ old. x_of h rs2)
-request_of b h s (AmoAdd rd rs1 rs2 aq rl) = amo_request b s (x_of h rs1) (λ old. add old (x_of h rs2))
-request_of b h s (AmoXor rd rs1 rs2 aq rl) = amo_request b s (x_of h rs1) (λ old. bit_xor old (x_of h rs2))
-request_of b h s (AmoAnd rd rs1 rs2 aq rl) = amo_request b s (x_of h rs1) (λ old. bit_and old (x_of h rs2))
-request_of b h s (AmoOr rd rs1 rs2 aq rl) = amo_request b s (x_of h rs1) (λ old. bit_or old (x_of h rs2))
-request_of b h s (AmoMin rd rs1 rs2 aq rl) = amo_request b s (x_of h rs1) (λ old. min old (x_of h rs2))
-request_of b h s (AmoMax rd rs1 rs2 aq rl) = amo_request b s (x_of h rs1) (λ old. max old (x_of h rs2))
-request_of b h s (AmoMinu rd rs1 rs2 aq rl) = amo_request b s (x_of h rs1) (λ old. minu old (x_of h rs2))
-request_of b h s (AmoMaxu rd rs1 rs2 aq rl) = amo_request b s (x_of h rs1) (λ old. maxu old (x_of h rs2))
+request_of b h s (AmoAdd rd rs1 rs2 aq rl) = amo_request b s (x_of h rs1)
+    (λ old. add old (x_of h rs2))
+request_of b h s (AmoXor rd rs1 rs2 aq rl) = amo_request b s (x_of h rs1)
+    (λ old. bit_xor old (x_of h rs2))
+request_of b h s (AmoAnd rd rs1 rs2 aq rl) = amo_request b s (x_of h rs1)
+    (λ old. bit_and old (x_of h rs2))
+request_of b h s (AmoOr rd rs1 rs2 aq rl) = amo_request b s (x_of h rs1)
+    (λ old. bit_or old (x_of h rs2))
+request_of b h s (AmoMin rd rs1 rs2 aq rl) = amo_request b s (x_of h rs1)
+    (λ old. min old (x_of h rs2))
+request_of b h s (AmoMax rd rs1 rs2 aq rl) = amo_request b s (x_of h rs1)
+    (λ old. max old (x_of h rs2))
+request_of b h s (AmoMinu rd rs1 rs2 aq rl) = amo_request b s (x_of h rs1)
+    (λ old. minu old (x_of h rs2))
+request_of b h s (AmoMaxu rd rs1 rs2 aq rl) = amo_request b s (x_of h rs1)
+    (λ old. maxu old (x_of h rs2))
 request_of b h s _ = None
 
 -- the store may run out of memory; where there is none, nothing may

@@ -231,7 +231,8 @@ impl Hart {
             let word = word_to_modify B.acts bus.old addr in
             IfOk result (λ o. bus_result o self.new bus.new
             ≡ store_conditional B.acts self.old bus.old rd addr (x_of self.old rs2) word) }
-        ensures memory { IsErr result → B.acts.wants bus.old (x_of self.old rs1) 4 (x_of self.old rs2) ≡ true }
+        ensures memory { IsErr result
+            → B.acts.wants bus.old (x_of self.old rs1) 4 (x_of self.old rs2) ≡ true }
     {
         let addr = self.at(rs1);
         if let Err(trap) = word_at(bus, STORE_ADDRESS_MISALIGNED, STORE_ACCESS_FAULT, addr) {

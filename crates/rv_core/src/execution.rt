@@ -22,9 +22,10 @@ use rv_traps::Csrs;
 use rv_traps::cause::{BREAKPOINT, ENVIRONMENT_CALL_FROM_M_MODE};
 
 impl Hart {
-    /// Executes one instruction over a bus, exactly as its row of the instruction table says. Some word has
-    /// to decode to it. `Trap` changes no register, no CSR and no memory. The bus afterwards is as before, or
-    /// as one store left it. No instruction changes the lines, the timer and the count of steps of the CSRs.
+    /// Executes one instruction over a bus, exactly as its row of the instruction table says. Some
+    /// word has to decode to it. `Trap` changes no register, no CSR and no memory. The bus
+    /// afterwards is as before, or as one store left it. No instruction changes the lines, the
+    /// timer and the count of steps of the CSRs.
     /// `NoMemory` comes only where the bus tells that the instruction's store may run out of memory. The CSRs
     /// are then as before, and nothing is stated of the hart and the bus.
     #[tactic(auto, unfolding(crate::specs::Effect::effect))]
@@ -43,7 +44,8 @@ impl Hart {
             KeepsOnTrap o self.old self.new csrs.old csrs.new bus.old bus.new) }
         ensures one_store { OnOk result (IsOneStore B.acts bus.old bus.new) }
         ensures lines { OnOk result (KeepsLines csrs.old csrs.new) }
-        ensures memory { IsErr result → MayRunOut B.acts bus.old (request_of B.acts self.old bus.old instr.now) }
+        ensures memory { IsErr result
+            → MayRunOut B.acts bus.old (request_of B.acts self.old bus.old instr.now) }
         ensures csrs { OnErr result (csrs.new ≡ csrs.old) }
     {
         self.execute_in_range(instr, csrs, bus)
@@ -62,7 +64,8 @@ impl Hart {
         ensures effect { (w : ℕ) → IsWordOf w instr.now → IfOk result (λ o.
             execution_result o self.new csrs.new bus.new
             ≡ effect B.acts self.old csrs.old bus.old w instr.now) }
-        ensures memory { IsErr result → MayRunOut B.acts bus.old (request_of B.acts self.old bus.old instr.now) }
+        ensures memory { IsErr result
+            → MayRunOut B.acts bus.old (request_of B.acts self.old bus.old instr.now) }
         ensures csrs { OnErr result (csrs.new ≡ csrs.old) }
     {
         match *instr {
@@ -188,7 +191,8 @@ impl Hart {
     fn put_above_pc(&mut self, rd: u8, imm: u32) -> Outcome
         requires register { rd < 32 }
         requires upper { imm < 2 ^ 20 }
-        ensures { hart_result result self.new ≡ write_rd self.old rd (add self.old.pc (imm * 2 ^ 12)) }
+        ensures { hart_result result self.new
+            ≡ write_rd self.old rd (add self.old.pc (imm * 2 ^ 12)) }
     {
         let sum = self.pc().wrapping_add(imm << 12);
         self.put(rd, sum)

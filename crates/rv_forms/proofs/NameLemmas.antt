@@ -22,7 +22,8 @@ use Rattle.rv_forms.proofs.WordLemmas.{IsFixed}
 
 -- ---- a row of the table
 
-find_by : {X : Type 0} (b : Bool) (p : X → Bool) (x y : X) (xs : List X) → p x ≡ b → (find p xs ≡ Some y → Contains xs y × (p y ≡ true)) → cond b (Some x) (find p xs) ≡ Some y → Contains (x ∷ xs) y × (p y ≡ true)
+find_by : {X : Type 0} (b : Bool) (p : X → Bool) (x y : X) (xs : List X) → p x ≡ b → (find p xs ≡ Some y →
+    Contains xs y × (p y ≡ true)) → cond b (Some x) (find p xs) ≡ Some y → Contains (x ∷ xs) y × (p y ≡ true)
 find_by true p x y xs t later e = let same : x ≡ y = cc in ((0, omega arith, same), ap p (sym same) ∙ t)
 find_by false p x y xs t later e = let h = later e in ((suc h.0.0, omega (arith, h.0.1), h.0.2), h.1)
 
@@ -31,7 +32,8 @@ pub find_found : {X : Type 0} (p : X → Bool) (xs : List X) (y : X) → find p 
 find_found p [] y e = absurd cc
 find_found p (x ∷ xs) y e = find_by (p x) p x y xs refl (find_found p xs y) e
 
-row_passes : (p : Mnemonic → Bool) (ms : List Mnemonic) (m : Mnemonic) → list_all p ms ≡ true → Contains ms m → p m ≡ true
+row_passes : (p : Mnemonic → Bool) (ms : List Mnemonic) (m : Mnemonic) → list_all p ms ≡ true → Contains ms m →
+    p m ≡ true
 row_passes p ms m all c = ap p (sym c.2) ∙ all_at p ms c.0 m all c.1
 
 abbrev is_fixed : Syntax → ℕ → Bool
@@ -63,7 +65,8 @@ unfolding mnemonics
 rows_rising = refl
 
 fixed_from : (syntax : Syntax) (v : ℕ) → is_fixed syntax v ≡ true → IsFixed syntax v
-fixed_from LrType v e = let b = and_parts (bit_and v 0xF9F0707F == v) (v / 2 ^ 20 % 2 ^ 5 == 0) e in (eqb-true _ _ b.0, eqb-true _ _ b.1)
+fixed_from LrType v e = let b = and_parts (bit_and v 0xF9F0707F == v) (v / 2 ^ 20 % 2 ^ 5 == 0) e in
+    (eqb-true _ _ b.0, eqb-true _ _ b.1)
 fixed_from UType v e = eqb-true _ _ e
 fixed_from JType v e = eqb-true _ _ e
 fixed_from IType v e = eqb-true _ _ e
@@ -83,16 +86,24 @@ row_is_fixed m c = fixed_from m.syntax m.value (row_passes (λ x. is_fixed x.syn
 pub named_row : (m : Mnemonic) → Contains mnemonics m → named m.name ≡ Some m
 unfolding named
 named_row m c =
-    let same : bytes_eq (get_or mnemonics c.0 m).name m.name ≡ true = (bytes_eq-Decides (get_or mnemonics c.0 m).name m.name).1 (ap (λ (x : Mnemonic). x.name) c.2) in
+    let same : bytes_eq (get_or mnemonics c.0 m).name m.name
+    ≡ true = (bytes_eq-Decides (get_or mnemonics c.0 m).name m.name).1 (ap (λ (x : Mnemonic). x.name) c.2) in
     found_at mnemonics m.name c.0 m rows_rising c.1 same ∙ ap (λ (x : Mnemonic). Some x) c.2
 
 pub named_found : (name : List ℕ) (m : Mnemonic) → named name ≡ Some m → Contains mnemonics m × (m.name ≡ name)
 unfolding named
-named_found name m e = let h = find_found (λ x. bytes_eq x.name name) mnemonics m e in (h.0, (bytes_eq-Decides m.name name).0 h.1)
+named_found name m e = let h = find_found (λ x. bytes_eq x.name name) mnemonics m e in (
+  h.0,
+  (bytes_eq-Decides m.name name).0 h.1,
+)
 
-pub fitting_found : (w : ℕ) (m : Mnemonic) → mnemonic_of w ≡ Some m → Contains mnemonics m × (bit_and w (mask_of m.syntax) ≡ m.value)
+pub fitting_found : (w : ℕ) (m : Mnemonic) → mnemonic_of w ≡ Some m →
+    Contains mnemonics m × (bit_and w (mask_of m.syntax) ≡ m.value)
 unfolding mnemonic_of
-fitting_found w m e = let h = find_found (λ x. fits x w) mnemonics m e in (h.0, eqb-true (bit_and w (mask_of m.syntax)) m.value h.1)
+fitting_found w m e = let h = find_found (λ x. fits x w) mnemonics m e in (
+  h.0,
+  eqb-true (bit_and w (mask_of m.syntax)) m.value h.1,
+)
 
 -- ---- order bits
 
@@ -113,8 +124,10 @@ abbrev last_bit : Option (Bool × Bool) → Bool
 last_bit None = false
 last_bit (Some b) = b.1
 
-order_by : (a b c d : Bool) (aq rl : Bool) (In : Bool → Bool → Type 0) → (a ≡ true → In false false) → (b ≡ true → In true false) → (c ≡ true → In false true) → (d ≡ true → In true true)
-    → cond a (bits false false) (cond b (bits true false) (cond c (bits false true) (cond d (bits true true) None))) ≡ bits aq rl → In aq rl
+order_by : (a b c d : Bool) (aq rl : Bool) (In : Bool → Bool → Type 0) → (a ≡ true → In false false) → (b ≡ true →
+    In true false) → (c ≡ true → In false true) → (d ≡ true → In true true)
+    → cond a (bits false false) (cond b (bits true false) (cond c (bits false true) (cond d
+    (bits true true) None))) ≡ bits aq rl → In aq rl
 order_by true b c d aq rl In x y z w e = rw (← ap first_bit e, ← ap last_bit e) (x refl)
 order_by false true c d aq rl In x y z w e = rw (← ap first_bit e, ← ap last_bit e) (y refl)
 order_by false false true d aq rl In x y z w e = rw (← ap first_bit e, ← ap last_bit e) (z refl)
@@ -123,15 +136,19 @@ order_by false false false false aq rl In x y z w e = absurd cc
 
 order_found : (text : List ℕ) (aq rl : Bool) → order_of text ≡ Some (aq, rl) → text ≡ order_text aq rl
 order_found text aq rl e =
-    order_by (bytes_eq text (codes "w")) (bytes_eq text (codes "w.aq")) (bytes_eq text (codes "w.rl")) (bytes_eq text (codes "w.aqrl")) aq rl (λ p q. text ≡ order_text p q)
-    (λ h. (bytes_eq-Decides text (codes "w")).0 h) (λ h. (bytes_eq-Decides text (codes "w.aq")).0 h) (λ h. (bytes_eq-Decides text (codes "w.rl")).0 h) (λ h. (bytes_eq-Decides text (codes "w.aqrl")).0 h) e
+    order_by (bytes_eq text (codes "w")) (bytes_eq text (codes "w.aq")) (bytes_eq text (codes "w.rl"))
+    (bytes_eq text (codes "w.aqrl")) aq rl (λ p q. text ≡ order_text p q)
+    (λ h. (bytes_eq-Decides text (codes "w")).0 h) (λ h. (bytes_eq-Decides text (codes "w.aq")).0 h) (λ h.
+    (bytes_eq-Decides text (codes "w.rl")).0 h) (λ h. (bytes_eq-Decides text (codes "w.aqrl")).0 h) e
 
 -- ---- names
 
 other_byte : (c d : ℕ) → is_ascii_alphanumeric c ≡ true → is_ascii_alphanumeric d ≡ false → c ≡ d → ⊥
-other_byte c d is_in is_out e = let h : is_ascii_alphanumeric d ≡ true = ap is_ascii_alphanumeric (sym e) ∙ is_in in cc
+other_byte c d is_in is_out e = let h : is_ascii_alphanumeric d ≡ true = ap is_ascii_alphanumeric (sym e)
+    ∙ is_in in cc
 
-cut_after : (name rest : List ℕ) → list_all is_ascii_alphanumeric name ≡ true → cut full_stop (name ++ full_stop ∷ rest) ≡ record { before = name; after = Some rest }
+cut_after : (name rest : List ℕ) → list_all is_ascii_alphanumeric name ≡ true →
+    cut full_stop (name ++ full_stop ∷ rest) ≡ record { before = name; after = Some rest }
 cut_after [] rest all = refl
 cut_after (c ∷ cs) rest all =
     let b = and_parts (is_ascii_alphanumeric c) (list_all is_ascii_alphanumeric cs) all in
@@ -144,19 +161,25 @@ none_is (Some x) e = absurd cc
 abbrev named_as : Mnemonic → Bool → Bool → Option Name
 named_as m aq rl = Some (record { mnemonic = m; aq = aq; rl = rl })
 
-again_by : (b : Bool) (m : Mnemonic) (aq rl : Bool) → is_ordered m.syntax ≡ b → is_plain b m.name ≡ true → named m.name ≡ Some m → OnFalse b ((aq ≡ false) × (rl ≡ false))
+again_by : (b : Bool) (m : Mnemonic) (aq rl : Bool) → is_ordered m.syntax ≡ b → is_plain b m.name ≡ true →
+    named m.name ≡ Some m → OnFalse b ((aq ≡ false) × (rl ≡ false))
     → name_of (cond b (m.name ++ full_stop ∷ order_text aq rl) m.name) ≡ named_as m aq rl
 unfolding name_of
 again_by true m aq rl is plain row order =
     let text : List ℕ = m.name ++ full_stop ∷ order_text aq rl in
-    let f : Option (Bool × Bool) → Option Name = λ o. option_and_then (with_order o) (named (base_of o text m.name)) in
-    ap (λ (h : Halves). name_by text h) (cut_after m.name (order_text aq rl) plain) ∙ (ap f (order_again aq rl) ∙ rw (row, is) refl)
+    let f : Option (Bool × Bool) → Option Name = λ o. option_and_then (with_order o) (named
+    (base_of o text m.name)) in
+    ap (λ (h : Halves). name_by text h) (cut_after m.name (order_text aq rl) plain) ∙ (ap f (order_again aq rl)
+    ∙ rw (row, is) refl)
 again_by false m aq rl is plain row order =
-    let f : Option (Bool × Bool) → Option Name = λ o. option_and_then (with_order o) (named (base_of o m.name (cut full_stop m.name).before)) in
+    let f : Option (Bool × Bool) → Option Name = λ o. option_and_then (with_order o) (named (base_of o m.name
+    (cut full_stop m.name).before)) in
     ap f (none_is (order_after (cut full_stop m.name).after) plain) ∙ rw (row, is, order.0, order.1) refl
 
-pub name_again : (m : Mnemonic) (aq rl : Bool) → Contains mnemonics m → OnFalse (is_ordered m.syntax) ((aq ≡ false) × (rl ≡ false)) → name_of (name_text m aq rl) ≡ named_as m aq rl
-name_again m aq rl c order = again_by (is_ordered m.syntax) m aq rl refl (row_passes (λ x. is_plain (is_ordered x.syntax) x.name) mnemonics m rows_plain c) (named_row m c) order
+pub name_again : (m : Mnemonic) (aq rl : Bool) → Contains mnemonics m →
+    OnFalse (is_ordered m.syntax) ((aq ≡ false) × (rl ≡ false)) → name_of (name_text m aq rl) ≡ named_as m aq rl
+name_again m aq rl c order = again_by (is_ordered m.syntax) m aq rl refl (row_passes (λ x. is_plain
+    (is_ordered x.syntax) x.name) mnemonics m rows_plain c) (named_row m c) order
 
 -- the text is the name
 pub record IsName (text : List ℕ) (n : Name) : Type 0 where
@@ -164,26 +187,36 @@ pub record IsName (text : List ℕ) (n : Name) : Type 0 where
   pub written : text ≡ name_text n.mnemonic n.aq n.rl
   pub order : OnFalse (is_ordered n.mnemonic.syntax) ((n.aq ≡ false) × (n.rl ≡ false))
 
-unordered_name : (b : Bool) (text : List ℕ) (m : Mnemonic) (n : Name) → is_ordered m.syntax ≡ b → Contains mnemonics m → m.name ≡ text → cond b None (named_as m false false) ≡ Some n → IsName text n
+unordered_name : (b : Bool) (text : List ℕ) (m : Mnemonic) (n : Name) → is_ordered m.syntax ≡ b →
+    Contains mnemonics m → m.name ≡ text → cond b None (named_as m false false) ≡ Some n → IsName text n
 unordered_name true text m n is c e h = absurd cc
 unordered_name false text m n is c e h =
     let same : record { mnemonic = m; aq = false; rl = false } ≡ n = cc in
     subst (λ (x : Name). IsName text x) same (record { row = c; written = rw is (sym e); order = rw is (refl, refl) })
 
-ordered_name : (b : Bool) (text rest : List ℕ) (m : Mnemonic) (aq rl : Bool) (n : Name) → is_ordered m.syntax ≡ b → Contains mnemonics m → text ≡ m.name ++ full_stop ∷ order_text aq rl → cond b (named_as m aq rl) None ≡ Some n → IsName text n
+ordered_name : (b : Bool) (text rest : List ℕ) (m : Mnemonic) (aq rl : Bool) (n : Name) → is_ordered m.syntax ≡ b →
+    Contains mnemonics m → text ≡ m.name ++ full_stop ∷ order_text aq rl → cond b (named_as m aq rl) None ≡ Some n →
+    IsName text n
 ordered_name false text rest m aq rl n is c e h = absurd cc
 ordered_name true text rest m aq rl n is c e h =
     let same : record { mnemonic = m; aq = aq; rl = rl } ≡ n = cc in
     subst (λ (x : Name). IsName text x) same (record { row = c; written = rw is e; order = rw is tt })
 
-some_row : {Y : Type 0} (o : Option Mnemonic) (f : Mnemonic → Option Y) (y : Y) → option_and_then f o ≡ Some y → (m : Mnemonic) × (o ≡ Some m) × (f m ≡ Some y)
+some_row : {Y : Type 0} (o : Option Mnemonic) (f : Mnemonic → Option Y) (y : Y) → option_and_then f o ≡ Some y →
+    (m : Mnemonic) × (o ≡ Some m) × (f m ≡ Some y)
 some_row None f y e = absurd cc
 some_row (Some m) f y e = (m, refl, e)
 
-cut_joins : (text after : List ℕ) → (cut full_stop text).after ≡ Some after → text ≡ (cut full_stop text).before ++ full_stop ∷ after
-cut_joins text after e = let P : Option (List ℕ) → Type 0 = λ o. MatchOption o ((cut full_stop text).before ≡ text) (λ rest. (cut full_stop text).before ++ (full_stop ∷ rest) ≡ text) in sym (subst P e (cut_parts full_stop text))
+cut_joins : (text after : List ℕ) → (cut full_stop text).after ≡ Some after →
+    text ≡ (cut full_stop text).before ++ full_stop ∷ after
+cut_joins text after e = let P : Option (List ℕ) → Type 0 = λ o. MatchOption o ((cut full_stop text).before
+    ≡ text) (λ rest. (cut full_stop text).before ++ (full_stop ∷ rest)
+    ≡ text) in sym (subst P e (cut_parts full_stop text))
 
-found_by : (after : Option (List ℕ)) (order : Option (Bool × Bool)) (text : List ℕ) (n : Name) → (cut full_stop text).after ≡ after → order_after after ≡ order → option_and_then (with_order order) (named (base_of order text (cut full_stop text).before)) ≡ Some n → IsName text n
+found_by : (after : Option (List ℕ)) (order : Option (Bool × Bool)) (text : List ℕ) (n : Name) →
+    (cut full_stop text).after ≡ after → order_after after ≡ order →
+    option_and_then (with_order order) (named (base_of order text (cut full_stop text).before)) ≡ Some n →
+    IsName text n
 found_by after None text n cuts is e =
     let r = some_row (named text) (with_order None) n e in
     let f = named_found text r.0 r.1 in
@@ -193,7 +226,8 @@ found_by (Some after) (Some order) text n cuts is e =
     let r = some_row (named (cut full_stop text).before) (with_order (Some order)) n e in
     let f = named_found (cut full_stop text).before r.0 r.1 in
     let rest : after ≡ order_text order.0 order.1 = order_found after order.0 order.1 is in
-    let joined : text ≡ r.0.name ++ full_stop ∷ order_text order.0 order.1 = cut_joins text after cuts ∙ rw (f.1, rest) refl in
+    let joined : text ≡ r.0.name ++ full_stop ∷ order_text order.0 order.1 = cut_joins text after cuts
+    ∙ rw (f.1, rest) refl in
     ordered_name (is_ordered r.0.syntax) text after r.0 order.0 order.1 n refl f.0 joined r.2
 
 pub name_found : (text : List ℕ) (n : Name) → name_of text ≡ Some n → IsName text n
@@ -208,18 +242,26 @@ order_bytes true false = refl
 order_bytes false true = refl
 order_bytes true true = refl
 
-bytes_by : (b : Bool) (name : List ℕ) (aq rl : Bool) → list_all is_name_byte name ≡ true → list_all is_name_byte (cond b (name ++ full_stop ∷ order_text aq rl) name) ≡ true
-bytes_by true name aq rl all = list_all-append is_name_byte name (full_stop ∷ order_text aq rl) ∙ rw (all, order_bytes aq rl) refl
+bytes_by : (b : Bool) (name : List ℕ) (aq rl : Bool) → list_all is_name_byte name ≡ true →
+    list_all is_name_byte (cond b (name ++ full_stop ∷ order_text aq rl) name) ≡ true
+bytes_by true name aq rl all = list_all-append is_name_byte name (full_stop ∷ order_text aq rl)
+    ∙ rw (all, order_bytes aq rl) refl
 bytes_by false name aq rl all = all
 
 -- letters, digits and full stops
-pub name_bytes : (m : Mnemonic) (aq rl : Bool) → Contains mnemonics m → list_all is_name_byte (name_text m aq rl) ≡ true
-name_bytes m aq rl c = bytes_by (is_ordered m.syntax) m.name aq rl (and_parts (list_all is_name_byte m.name) (ltb 0 (length m.name)) (row_passes (λ x. list_all is_name_byte x.name && ltb 0 (length x.name)) mnemonics m rows_named c)).0
+pub name_bytes : (m : Mnemonic) (aq rl : Bool) → Contains mnemonics m →
+    list_all is_name_byte (name_text m aq rl) ≡ true
+name_bytes m aq rl c = bytes_by (is_ordered m.syntax) m.name aq rl (and_parts (list_all is_name_byte m.name) (ltb 0
+    (length m.name)) (row_passes (λ x. list_all is_name_byte x.name && ltb 0
+    (length x.name)) mnemonics m rows_named c)).0
 
-some_by : (b : Bool) (name : List ℕ) (aq rl : Bool) → 0 < length name → 0 < length (cond b (name ++ full_stop ∷ order_text aq rl) name)
+some_by : (b : Bool) (name : List ℕ) (aq rl : Bool) → 0 < length name →
+    0 < length (cond b (name ++ full_stop ∷ order_text aq rl) name)
 some_by true name aq rl some = omega (arith, length-append name (full_stop ∷ order_text aq rl))
 some_by false name aq rl some = some
 
 -- a name has a byte
 pub name_some : (m : Mnemonic) (aq rl : Bool) → Contains mnemonics m → 0 < length (name_text m aq rl)
-name_some m aq rl c = some_by (is_ordered m.syntax) m.name aq rl (ltb-true 0 (length m.name) (and_parts (list_all is_name_byte m.name) (ltb 0 (length m.name)) (row_passes (λ x. list_all is_name_byte x.name && ltb 0 (length x.name)) mnemonics m rows_named c)).1)
+name_some m aq rl c = some_by (is_ordered m.syntax) m.name aq rl (ltb-true 0 (length m.name) (and_parts
+    (list_all is_name_byte m.name) (ltb 0 (length m.name)) (row_passes (λ x. list_all is_name_byte x.name && ltb 0
+    (length x.name)) mnemonics m rows_named c)).1)

@@ -24,7 +24,8 @@ Row = Bor (List ℕ) × Syntax × ℕ
 abbrev pub view : Row → Mnemonic
 view r = row r.0.now r.1 r.2
 
-pub all_at : {X : Type 0} (p : X → Bool) (xs : List X) (k : ℕ) (d : X) → list_all p xs ≡ true → k < length xs → p (get_or xs k d) ≡ true
+pub all_at : {X : Type 0} (p : X → Bool) (xs : List X) (k : ℕ) (d : X) → list_all p xs ≡ true → k < length xs →
+    p (get_or xs k d) ≡ true
 all_at p [] k d all inside = absurd (omega arith)
 all_at p (x ∷ xs) zero d all inside = (and_parts (p x) (list_all p xs) all).0
 all_at p (x ∷ xs) (suc k) d all inside = all_at p xs k d (and_parts (p x) (list_all p xs) all).1 (omega arith)
@@ -44,7 +45,8 @@ less Equal e = absurd cc
 less Greater e = absurd cc
 
 -- a name is less than each later one
-pub later_is_less : (ms : List Mnemonic) (j k : ℕ) (d : Mnemonic) → are_rising ms ≡ true → j < k → k < length ms → slice_cmp nat_cmp (get_or ms j d).name (get_or ms k d).name ≡ Less
+pub later_is_less : (ms : List Mnemonic) (j k : ℕ) (d : Mnemonic) → are_rising ms ≡ true → j < k → k < length ms →
+    slice_cmp nat_cmp (get_or ms j d).name (get_or ms k d).name ≡ Less
 later_is_less [] j k d rising below inside = absurd (omega arith)
 later_is_less (m ∷ ms) zero zero d rising below inside = absurd (omega arith)
 later_is_less (m ∷ ms) zero (suc k) d rising below inside =
@@ -55,60 +57,89 @@ later_is_less (m ∷ ms) (suc j) (suc k) d rising below inside =
     let p : Mnemonic → Bool = λ later. is_lt (slice_cmp nat_cmp m.name later.name) in
     later_is_less ms j k d (and_parts (list_all p ms) (are_rising ms) rising).1 (omega arith) (omega arith)
 
-sorted : (rs : List Row) → are_rising (map view rs) ≡ true → IsSortedBy (λ (a b : Row). is_lt (slice_cmp nat_cmp a.0.now b.0.now)) rs
+sorted : (rs : List Row) → are_rising (map view rs) ≡ true →
+    IsSortedBy (λ (a b : Row). is_lt (slice_cmp nat_cmp a.0.now b.0.now)) rs
 sorted rs rising = λ k d low inside.
     let names : Mnemonic → Mnemonic → Type 0 = λ x y. slice_cmp nat_cmp x.name y.name ≡ Less in
-    let e : names (view (get_or rs k d)) (view (get_or rs (k + 1) d)) = rw (← mapped_at rs k d (omega arith), ← mapped_at rs (k + 1) d (omega arith)) (later_is_less (map view rs) k (k + 1) (view d) rising (omega arith) (omega (arith, mapped_length rs))) in
+    let e : names (view (get_or rs k d)) (view (get_or rs (k + 1) d)) = rw (
+      ← mapped_at rs k d (omega arith),
+      ← mapped_at rs (k + 1) d (omega arith),
+    ) (later_is_less (map view rs) k (k + 1) (view d) rising
+    (omega arith) (omega (arith, mapped_length rs))) in
     ap is_lt (nat_list_cmp_total.antisymm (get_or rs (k + 1) d).0.now (get_or rs k d).0.now ∙ ap ordering_reverse e)
 
 other_name : (a b : List ℕ) (o : Ordering) → slice_cmp nat_cmp a b ≡ o → is_eq o ≡ false → bytes_eq a b ≡ false
 other_name a b o e differs = sym (is_eq-slice_cmp a b) ∙ (ap is_eq e ∙ differs)
 
-none_named : (rs : List Row) (name : List ℕ) → ((k : ℕ) (d : Row) → k < length rs → bytes_eq (get_or rs k d).0.now name ≡ false) → find (λ m. bytes_eq m.name name) (map view rs) ≡ None
+none_named : (rs : List Row) (name : List ℕ) → ((k : ℕ) (d : Row) → k < length rs →
+    bytes_eq (get_or rs k d).0.now name ≡ false) → find (λ m. bytes_eq m.name name) (map view rs) ≡ None
 none_named [] name none = refl
-none_named (r ∷ rs) name none = rw (none 0 r (omega arith)) (none_named rs name (λ k d inside. none (suc k) d (omega arith)))
+none_named (r ∷ rs) name none = rw (none 0 r (omega arith)) (none_named rs name (λ k d inside. none (suc k) d
+    (omega arith)))
 
-pub found_at : (ms : List Mnemonic) (name : List ℕ) (i : ℕ) (d : Mnemonic) → are_rising ms ≡ true → i < length ms → bytes_eq (get_or ms i d).name name ≡ true → find (λ m. bytes_eq m.name name) ms ≡ Some (get_or ms i d)
+pub found_at : (ms : List Mnemonic) (name : List ℕ) (i : ℕ) (d : Mnemonic) → are_rising ms ≡ true → i < length ms →
+    bytes_eq (get_or ms i d).name name ≡ true → find (λ m. bytes_eq m.name name) ms ≡ Some (get_or ms i d)
 found_at [] name i d rising inside here = absurd (omega arith)
 found_at (m ∷ ms) name zero d rising inside here = rw here refl
 found_at (m ∷ ms) name (suc i) d rising inside here =
     let same : (get_or ms i d).name ≡ name = (bytes_eq-Decides (get_or ms i d).name name).0 here in
-    let before : slice_cmp nat_cmp m.name (get_or ms i d).name ≡ Less = later_is_less (m ∷ ms) 0 (suc i) d rising (omega arith) inside in
-    let other : bytes_eq m.name name ≡ false = other_name m.name name Less (ap (λ (n : List ℕ). slice_cmp nat_cmp m.name n) (sym same) ∙ before) refl in
+    let before : slice_cmp nat_cmp m.name (get_or ms i d).name
+    ≡ Less = later_is_less (m ∷ ms) 0 (suc i) d rising (omega arith) inside in
+    let other : bytes_eq m.name name ≡ false = other_name m.name name Less (ap (λ
+    (n : List ℕ). slice_cmp nat_cmp m.name n) (sym same) ∙ before) refl in
     let p : Mnemonic → Bool = λ later. is_lt (slice_cmp nat_cmp m.name later.name) in
     rw other (found_at ms name i d (and_parts (list_all p ms) (are_rising ms) rising).1 (omega arith) here)
 
 -- what a search by halving finds
-pub searched : (rs : List Row) (name : List ℕ) (r : Result ℕ ℕ) → are_rising (map view rs) ≡ true → IsSearchInRange r (length rs) → IsBinarySearchResult (λ (y : Row). slice_cmp nat_cmp y.0.now name) rs r
-    → MatchResult r (λ i. (d : Row) → find (λ m. bytes_eq m.name name) (map view rs) ≡ Some (view (get_or rs i d))) (λ _. find (λ m. bytes_eq m.name name) (map view rs) ≡ None)
+pub searched : (rs : List Row) (name : List ℕ) (r : Result ℕ ℕ) → are_rising (map view rs) ≡ true →
+    IsSearchInRange r (length rs) → IsBinarySearchResult (λ (y : Row). slice_cmp nat_cmp y.0.now name) rs r
+    → MatchResult r (λ i. (d : Row) → find (λ m. bytes_eq m.name name) (map view rs)
+    ≡ Some (view (get_or rs i d))) (λ _. find (λ m. bytes_eq m.name name) (map view rs) ≡ None)
 searched rs name (Ok i) rising inside here = λ d.
     let at : get_or (map view rs) i (view d) ≡ view (get_or rs i d) = mapped_at rs i d inside in
-    let same : bytes_eq (get_or (map view rs) i (view d)).name name ≡ true = ap (λ (m : Mnemonic). bytes_eq m.name name) at ∙ (sym (is_eq-slice_cmp (get_or rs i d).0.now name) ∙ ap is_eq (here d)) in
-    found_at (map view rs) name i (view d) rising (omega (arith, mapped_length rs)) same ∙ ap (λ (m : Mnemonic). Some m) at
+    let same : bytes_eq (get_or (map view rs) i (view d)).name name
+    ≡ true = ap (λ (m : Mnemonic). bytes_eq m.name name) at
+    ∙ (sym (is_eq-slice_cmp (get_or rs i d).0.now name) ∙ ap is_eq (here d)) in
+    found_at (map view rs) name i (view d) rising (omega (arith, mapped_length rs)) same
+    ∙ ap (λ (m : Mnemonic). Some m) at
 searched rs name (Err i) rising inside split =
-    let parts : IsPartitionPoint (λ (y : Row). slice_cmp nat_cmp y.0.now name ≡ Less) (λ (y : Row). slice_cmp nat_cmp y.0.now name ≡ Greater) rs i = split (searchable_from_sorted nat_list_cmp_total (λ (y : Row). y.0.now) rs name (sorted rs rising)) in
+    let parts : IsPartitionPoint (λ (y : Row). slice_cmp nat_cmp y.0.now name
+    ≡ Less) (λ (y : Row). slice_cmp nat_cmp y.0.now name
+    ≡ Greater) rs i = split (searchable_from_sorted nat_list_cmp_total (λ (y : Row). y.0.now) rs name
+    (sorted rs rising)) in
     none_named rs name (λ k d below. elim (cases_lt k i) [
       | inl front ↦ other_name (get_or rs k d).0.now name Less (parts.0 k d (omega arith) front) refl
       | inr back ↦ other_name (get_or rs k d).0.now name Greater (parts.1 k d back below) refl
     ])
 
 -- each row's bits are under its mask
-pub row_fixed : (rs : List Row) (k : ℕ) (d : Row) → IsTrue (is_table (map view rs)) → k < length rs → (get_or rs k d).2 ≤ mask_of (get_or rs k d).1
+pub row_fixed : (rs : List Row) (k : ℕ) (d : Row) → IsTrue (is_table (map view rs)) → k < length rs →
+    (get_or rs k d).2 ≤ mask_of (get_or rs k d).1
 row_fixed rs k d table inside =
     let p : Mnemonic → Bool = λ m. bit_and m.value (mask_of m.syntax) == m.value in
     let all = (and_parts (are_rising (map view rs)) (list_all p (map view rs)) table).1 in
-    let here : p (view (get_or rs k d)) ≡ true = ap p (sym (mapped_at rs k d inside)) ∙ all_at p (map view rs) k (view d) all (omega (arith, mapped_length rs)) in
-    omega (arith, eqb-true (bit_and (get_or rs k d).2 (mask_of (get_or rs k d).1)) (get_or rs k d).2 here, and_le_r (get_or rs k d).2 (mask_of (get_or rs k d).1))
+    let here : p (view (get_or rs k d)) ≡ true = ap p (sym (mapped_at rs k d inside))
+    ∙ all_at p (map view rs) k (view d) all (omega (arith, mapped_length rs)) in
+    omega (
+      arith,
+      eqb-true (bit_and (get_or rs k d).2 (mask_of (get_or rs k d).1)) (get_or rs k d).2 here,
+      and_le_r (get_or rs k d).2 (mask_of (get_or rs k d).1),
+    )
 
 pub table_rises : (rs : List Row) → IsTrue (is_table (map view rs)) → are_rising (map view rs) ≡ true
-table_rises rs table = (and_parts (are_rising (map view rs)) (list_all (λ m. bit_and m.value (mask_of m.syntax) == m.value) (map view rs)) table).0
+table_rises rs table = (and_parts (are_rising (map view rs)) (list_all (λ m. bit_and m.value
+    (mask_of m.syntax) == m.value) (map view rs)) table).0
 
 -- the first row that fits, one row at a time
-pub fits_at : (rs : List Row) (w i : ℕ) (d : Row) → ((k : ℕ) (e : Row) → k < i → fits (view (get_or rs k e)) w ≡ false) → i < length rs → fits (view (get_or rs i d)) w ≡ true → find (λ m. fits m w) (map view rs) ≡ Some (view (get_or rs i d))
+pub fits_at : (rs : List Row) (w i : ℕ) (d : Row) → ((k : ℕ) (e : Row) → k < i →
+    fits (view (get_or rs k e)) w ≡ false) → i < length rs → fits (view (get_or rs i d)) w ≡ true →
+    find (λ m. fits m w) (map view rs) ≡ Some (view (get_or rs i d))
 fits_at [] w i d none inside here = absurd (omega arith)
 fits_at (r ∷ rs) w zero d none inside here = rw here refl
-fits_at (r ∷ rs) w (suc i) d none inside here = rw (none 0 d (omega arith)) (fits_at rs w i d (λ k e below. none (suc k) e (omega arith)) (omega arith) here)
+fits_at (r ∷ rs) w (suc i) d none inside here = rw (none 0 d (omega arith)) (fits_at rs w i d (λ k e below. none
+    (suc k) e (omega arith)) (omega arith) here)
 
-pub none_fits : (rs : List Row) (w : ℕ) → ((k : ℕ) (e : Row) → k < length rs → fits (view (get_or rs k e)) w ≡ false) → find (λ m. fits m w) (map view rs) ≡ None
+pub none_fits : (rs : List Row) (w : ℕ) → ((k : ℕ) (e : Row) → k < length rs →
+    fits (view (get_or rs k e)) w ≡ false) → find (λ m. fits m w) (map view rs) ≡ None
 none_fits [] w none = refl
 none_fits (r ∷ rs) w none = rw (none 0 r (omega arith)) (none_fits rs w (λ k e below. none (suc k) e (omega arith)))

@@ -15,7 +15,8 @@ use Rattle.rv_forms.specs.Forms.{kinds_of, mask_of, operands_of, word_of}
 use Rattle.rv_forms.specs.Ranges.{AreInRange, Keeps}
 
 -- the operands of a word, put in their places, give the word back
-pub word_back : (syntax : Syntax) (value w : ℕ) → w < 2 ^ 32 → bit_and w (mask_of syntax) ≡ value → word_of syntax value (operands_of syntax w) ≡ w
+pub word_back : (syntax : Syntax) (value w : ℕ) → w < 2 ^ 32 → bit_and w (mask_of syntax) ≡ value →
+    word_of syntax value (operands_of syntax w) ≡ w
 unfolding word_of operands_of
 word_back UType v w l e = u_type_back w v l e
 word_back JType v w l e = j_type_back w v l e
@@ -116,7 +117,21 @@ module _ (o f : ℕ) (lo : o < 2 ^ 7) (lf : f < 2 ^ 3) where
       let eb : b ≡ rs1 w = omega arith in
       let bits : bits_at 20 12 w ≡ n = omega arith in
       let ez : imm_i w ≡ x.imm = ap (signed 12) bits ∙ signed-unsigned 12 x.imm refl r.1.1.0 in
-      record { below = omega arith; fixed = omega (arith, under_funct3 w); operands = (ea, (eb, (sym ez, tt))); order = tt }
+      record {
+        below = omega arith;
+        fixed = omega (arith, under_funct3 w);
+        operands = (
+          ea,
+          (
+            eb,
+            (
+              sym ez,
+              tt,
+            ),
+          ),
+        );
+        order = tt;
+      }
 
   load_type : (x : Operands) → AreInRange (kinds_of LoadType) x → Keeps LoadType (o + f * 2 ^ 12) x
   unfolding word_of operands_of
@@ -132,7 +147,18 @@ module _ (o f : ℕ) (lo : o < 2 ^ 7) (lf : f < 2 ^ 3) where
       let eb : b ≡ rs1 w = omega arith in
       let bits : bits_at 20 12 w ≡ n = omega arith in
       let ez : imm_i w ≡ x.imm = ap (signed 12) bits ∙ signed-unsigned 12 x.imm refl r.1.0.0 in
-      record { below = omega arith; fixed = omega (arith, under_funct3 w); operands = (ea, ((sym ez, eb), tt)); order = tt }
+      record {
+        below = omega arith;
+        fixed = omega (arith, under_funct3 w);
+        operands = (
+          ea,
+          (
+            (sym ez, eb),
+            tt,
+          ),
+        );
+        order = tt;
+      }
 
   s_type : (x : Operands) → AreInRange (kinds_of SType) x → Keeps SType (o + f * 2 ^ 12) x
   unfolding word_of operands_of
@@ -148,7 +174,18 @@ module _ (o f : ℕ) (lo : o < 2 ^ 7) (lf : f < 2 ^ 3) where
       let eb : b ≡ rs2 w = omega arith in
       let bits : bits_at 25 7 w * 2 ^ 5 + bits_at 7 5 w ≡ n = omega arith in
       let ez : imm_s w ≡ x.imm = ap (signed 12) bits ∙ signed-unsigned 12 x.imm refl r.1.0.0 in
-      record { below = omega arith; fixed = omega (arith, under_funct3 w); operands = (eb, ((sym ez, ea), tt)); order = tt }
+      record {
+        below = omega arith;
+        fixed = omega (arith, under_funct3 w);
+        operands = (
+          eb,
+          (
+            (sym ez, ea),
+            tt,
+          ),
+        );
+        order = tt;
+      }
 
   b_type : (x : Operands) → AreInRange (kinds_of BType) x → Keeps BType (o + f * 2 ^ 12) x
   unfolding word_of operands_of
@@ -163,9 +200,24 @@ module _ (o f : ℕ) (lo : o < 2 ^ 7) (lf : f < 2 ^ 3) where
       let w : ℕ = b_type_word (o + f * 2 ^ 12) a b x.imm in
       let ea : a ≡ rs1 w = omega arith in
       let eb : b ≡ rs2 w = omega arith in
-      let bits : bits_at 31 1 w * 2 ^ 12 + bits_at 7 1 w * 2 ^ 11 + bits_at 25 6 w * 2 ^ 5 + bits_at 8 4 w * 2 ≡ n = omega arith in
+      let bits : bits_at 31 1 w * 2 ^ 12 + bits_at 7 1 w * 2 ^ 11 + bits_at 25 6 w * 2 ^ 5 + bits_at 8 4 w * 2
+      ≡ n = omega arith in
       let ez : imm_b w ≡ x.imm = ap (signed 13) bits ∙ signed-unsigned 13 x.imm refl r.1.1.0.0 in
-      record { below = omega arith; fixed = omega (arith, under_funct3 w); operands = (ea, (eb, (sym ez, tt))); order = tt }
+      record {
+        below = omega arith;
+        fixed = omega (arith, under_funct3 w);
+        operands = (
+          ea,
+          (
+            eb,
+            (
+              sym ez,
+              tt,
+            ),
+          ),
+        );
+        order = tt;
+      }
 
   csr_type : (x : Operands) → AreInRange (kinds_of CsrType) x → Keeps CsrType (o + f * 2 ^ 12) x
   unfolding word_of operands_of
@@ -180,7 +232,21 @@ module _ (o f : ℕ) (lo : o < 2 ^ 7) (lf : f < 2 ^ 3) where
       let ea : a ≡ rd w = omega arith in
       let eb : b ≡ rs1 w = omega arith in
       let en : n ≡ csr w = omega arith in
-      record { below = omega arith; fixed = omega (arith, under_funct3 w); operands = (ea, (en, (eb, tt))); order = tt }
+      record {
+        below = omega arith;
+        fixed = omega (arith, under_funct3 w);
+        operands = (
+          ea,
+          (
+            en,
+            (
+              eb,
+              tt,
+            ),
+          ),
+        );
+        order = tt;
+      }
 
   csr_number_type : (x : Operands) → AreInRange (kinds_of CsrNumberType) x → Keeps CsrNumberType (o + f * 2 ^ 12) x
   unfolding word_of operands_of
@@ -195,9 +261,24 @@ module _ (o f : ℕ) (lo : o < 2 ^ 7) (lf : f < 2 ^ 3) where
       let ea : a ≡ rd w = omega arith in
       let eb : b ≡ rs1 w = omega arith in
       let en : n ≡ csr w = omega arith in
-      record { below = omega arith; fixed = omega (arith, under_funct3 w); operands = (ea, (en, (eb, tt))); order = tt }
+      record {
+        below = omega arith;
+        fixed = omega (arith, under_funct3 w);
+        operands = (
+          ea,
+          (
+            en,
+            (
+              eb,
+              tt,
+            ),
+          ),
+        );
+        order = tt;
+      }
 
-  r_type : (g : ℕ) → g < 2 ^ 7 → (x : Operands) → AreInRange (kinds_of RType) x → Keeps RType (o + f * 2 ^ 12 + g * 2 ^ 25) x
+  r_type : (g : ℕ) → g < 2 ^ 7 → (x : Operands) → AreInRange (kinds_of RType) x →
+      Keeps RType (o + f * 2 ^ 12 + g * 2 ^ 25) x
   unfolding word_of operands_of
   r_type g lg x r =
       let a : ℕ = x.rd in
@@ -210,9 +291,24 @@ module _ (o f : ℕ) (lo : o < 2 ^ 7) (lf : f < 2 ^ 3) where
       let ea : a ≡ rd w = omega arith in
       let eb : b ≡ rs1 w = omega arith in
       let ec : c ≡ rs2 w = omega arith in
-      record { below = omega arith; fixed = omega (arith, under_funct7 w); operands = (ea, (eb, (ec, tt))); order = tt }
+      record {
+        below = omega arith;
+        fixed = omega (arith, under_funct7 w);
+        operands = (
+          ea,
+          (
+            eb,
+            (
+              ec,
+              tt,
+            ),
+          ),
+        );
+        order = tt;
+      }
 
-  shift_type : (g : ℕ) → g < 2 ^ 7 → (x : Operands) → AreInRange (kinds_of ShiftType) x → Keeps ShiftType (o + f * 2 ^ 12 + g * 2 ^ 25) x
+  shift_type : (g : ℕ) → g < 2 ^ 7 → (x : Operands) → AreInRange (kinds_of ShiftType) x →
+      Keeps ShiftType (o + f * 2 ^ 12 + g * 2 ^ 25) x
   unfolding word_of operands_of
   shift_type g lg x r =
       let a : ℕ = x.rd in
@@ -225,9 +321,24 @@ module _ (o f : ℕ) (lo : o < 2 ^ 7) (lf : f < 2 ^ 3) where
       let ea : a ≡ rd w = omega arith in
       let eb : b ≡ rs1 w = omega arith in
       let ec : c ≡ rs2 w = omega arith in
-      record { below = omega arith; fixed = omega (arith, under_funct7 w); operands = (ea, (eb, (ec, tt))); order = tt }
+      record {
+        below = omega arith;
+        fixed = omega (arith, under_funct7 w);
+        operands = (
+          ea,
+          (
+            eb,
+            (
+              ec,
+              tt,
+            ),
+          ),
+        );
+        order = tt;
+      }
 
-  amo_type : (g : ℕ) → g < 2 ^ 5 → (x : Operands) → AreInRange (kinds_of AmoType) x → Keeps AmoType (o + f * 2 ^ 12 + g * 2 ^ 27) x
+  amo_type : (g : ℕ) → g < 2 ^ 5 → (x : Operands) → AreInRange (kinds_of AmoType) x →
+      Keeps AmoType (o + f * 2 ^ 12 + g * 2 ^ 27) x
   unfolding word_of operands_of
   amo_type g lg x r =
       let a : ℕ = x.rd in
@@ -239,7 +350,8 @@ module _ (o f : ℕ) (lo : o < 2 ^ 7) (lf : f < 2 ^ 3) where
       let w : ℕ = amo_word (o + f * 2 ^ 12 + g * 2 ^ 27) a b c x.aq x.rl in
       let lp : bit_value x.aq < 2 = bit_below x.aq in
       let lq : bit_value x.rl < 2 = bit_below x.rl in
-      let sum : w ≡ o + f * 2 ^ 12 + g * 2 ^ 27 + a * 2 ^ 7 + b * 2 ^ 15 + c * 2 ^ 20 + bit_value x.aq * 2 ^ 26 + bit_value x.rl * 2 ^ 25 = omega (arith, aq_value x.aq, rl_value x.rl) in
+      let sum : w
+      ≡ o + f * 2 ^ 12 + g * 2 ^ 27 + a * 2 ^ 7 + b * 2 ^ 15 + c * 2 ^ 20 + bit_value x.aq * 2 ^ 26 + bit_value x.rl * 2 ^ 25 = omega (arith, aq_value x.aq, rl_value x.rl) in
       let ea : a ≡ rd w = omega arith in
       let eb : b ≡ rs1 w = omega arith in
       let ec : c ≡ rs2 w = omega arith in
@@ -247,9 +359,24 @@ module _ (o f : ℕ) (lo : o < 2 ^ 7) (lf : f < 2 ^ 3) where
       let bq : bits_at 25 1 w ≡ bit_value x.rl = omega arith in
       let ep : aq w ≡ x.aq = ap (λ n. n == 1) bp ∙ bit_read x.aq in
       let eq : rl w ≡ x.rl = ap (λ n. n == 1) bq ∙ bit_read x.rl in
-      record { below = omega arith; fixed = omega (arith, under_funct5 w); operands = (ea, (ec, (eb, tt))); order = (sym ep, sym eq) }
+      record {
+        below = omega arith;
+        fixed = omega (arith, under_funct5 w);
+        operands = (
+          ea,
+          (
+            ec,
+            (
+              eb,
+              tt,
+            ),
+          ),
+        );
+        order = (sym ep, sym eq);
+      }
 
-  lr_type : (g : ℕ) → g < 2 ^ 5 → (x : Operands) → AreInRange (kinds_of LrType) x → Keeps LrType (o + f * 2 ^ 12 + g * 2 ^ 27) x
+  lr_type : (g : ℕ) → g < 2 ^ 5 → (x : Operands) → AreInRange (kinds_of LrType) x →
+      Keeps LrType (o + f * 2 ^ 12 + g * 2 ^ 27) x
   unfolding word_of operands_of
   lr_type g lg x r =
       let a : ℕ = x.rd in
@@ -259,34 +386,48 @@ module _ (o f : ℕ) (lo : o < 2 ^ 7) (lf : f < 2 ^ 3) where
       let w : ℕ = lr_word (o + f * 2 ^ 12 + g * 2 ^ 27) a b x.aq x.rl in
       let lp : bit_value x.aq < 2 = bit_below x.aq in
       let lq : bit_value x.rl < 2 = bit_below x.rl in
-      let sum : w ≡ o + f * 2 ^ 12 + g * 2 ^ 27 + a * 2 ^ 7 + b * 2 ^ 15 + bit_value x.aq * 2 ^ 26 + bit_value x.rl * 2 ^ 25 = omega (arith, aq_value x.aq, rl_value x.rl) in
+      let sum : w
+      ≡ o + f * 2 ^ 12 + g * 2 ^ 27 + a * 2 ^ 7 + b * 2 ^ 15 + bit_value x.aq * 2 ^ 26 + bit_value x.rl * 2 ^ 25 = omega (arith, aq_value x.aq, rl_value x.rl) in
       let ea : a ≡ rd w = omega arith in
       let eb : b ≡ rs1 w = omega arith in
       let bp : bits_at 26 1 w ≡ bit_value x.aq = omega arith in
       let bq : bits_at 25 1 w ≡ bit_value x.rl = omega arith in
       let ep : aq w ≡ x.aq = ap (λ n. n == 1) bp ∙ bit_read x.aq in
       let eq : rl w ≡ x.rl = ap (λ n. n == 1) bq ∙ bit_read x.rl in
-      record { below = omega arith; fixed = omega (arith, under_lr w); operands = (ea, (eb, tt)); order = (sym ep, sym eq) }
+      record {
+        below = omega arith;
+        fixed = omega (arith, under_lr w);
+        operands = (ea, (eb, tt));
+        order = (
+          sym ep,
+          sym eq,
+        );
+      }
 
 -- ---- any format
 
 abbrev funct3 : ℕ → ℕ
 funct3 v = v / 2 ^ 12 % 2 ^ 3
 
-keeps_opcode : (syntax : Syntax) (v : ℕ) (x : Operands) → bit_and v 0x7F ≡ v → Keeps syntax (v % 2 ^ 7) x → Keeps syntax v x
+keeps_opcode : (syntax : Syntax) (v : ℕ) (x : Operands) → bit_and v 0x7F ≡ v → Keeps syntax (v % 2 ^ 7) x →
+    Keeps syntax v x
 keeps_opcode syntax v x e k = let P : ℕ → Type 0 = λ n. Keeps syntax n x in subst P (sym (under_opcode v) ∙ e) k
 
-keeps_funct3 : (syntax : Syntax) (v : ℕ) (x : Operands) → bit_and v 0x707F ≡ v → Keeps syntax (v % 2 ^ 7 + funct3 v * 2 ^ 12) x → Keeps syntax v x
+keeps_funct3 : (syntax : Syntax) (v : ℕ) (x : Operands) → bit_and v 0x707F ≡ v →
+    Keeps syntax (v % 2 ^ 7 + funct3 v * 2 ^ 12) x → Keeps syntax v x
 keeps_funct3 syntax v x e k = let P : ℕ → Type 0 = λ n. Keeps syntax n x in subst P (sym (under_funct3 v) ∙ e) k
 
-keeps_funct7 : (syntax : Syntax) (v : ℕ) (x : Operands) → bit_and v 0xFE00707F ≡ v → Keeps syntax (v % 2 ^ 7 + funct3 v * 2 ^ 12 + v / 2 ^ 25 % 2 ^ 7 * 2 ^ 25) x → Keeps syntax v x
+keeps_funct7 : (syntax : Syntax) (v : ℕ) (x : Operands) → bit_and v 0xFE00707F ≡ v →
+    Keeps syntax (v % 2 ^ 7 + funct3 v * 2 ^ 12 + v / 2 ^ 25 % 2 ^ 7 * 2 ^ 25) x → Keeps syntax v x
 keeps_funct7 syntax v x e k = let P : ℕ → Type 0 = λ n. Keeps syntax n x in subst P (sym (under_funct7 v) ∙ e) k
 
-keeps_funct5 : (syntax : Syntax) (v : ℕ) (x : Operands) → bit_and v 0xF800707F ≡ v → Keeps syntax (v % 2 ^ 7 + funct3 v * 2 ^ 12 + v / 2 ^ 27 % 2 ^ 5 * 2 ^ 27) x → Keeps syntax v x
+keeps_funct5 : (syntax : Syntax) (v : ℕ) (x : Operands) → bit_and v 0xF800707F ≡ v →
+    Keeps syntax (v % 2 ^ 7 + funct3 v * 2 ^ 12 + v / 2 ^ 27 % 2 ^ 5 * 2 ^ 27) x → Keeps syntax v x
 keeps_funct5 syntax v x e k = let P : ℕ → Type 0 = λ n. Keeps syntax n x in subst P (sym (under_funct5 v) ∙ e) k
 
 -- of LR the place of rs2 is fixed too, and 0
-keeps_lr : (v : ℕ) (x : Operands) → bit_and v 0xF9F0707F ≡ v → v / 2 ^ 20 % 2 ^ 5 ≡ 0 → Keeps LrType (v % 2 ^ 7 + funct3 v * 2 ^ 12 + v / 2 ^ 27 % 2 ^ 5 * 2 ^ 27) x → Keeps LrType v x
+keeps_lr : (v : ℕ) (x : Operands) → bit_and v 0xF9F0707F ≡ v → v / 2 ^ 20 % 2 ^ 5 ≡ 0 →
+    Keeps LrType (v % 2 ^ 7 + funct3 v * 2 ^ 12 + v / 2 ^ 27 % 2 ^ 5 * 2 ^ 27) x → Keeps LrType v x
 keeps_lr v x e none k = let P : ℕ → Type 0 = λ n. Keeps LrType n x in subst P (omega (arith, under_lr v)) k
 
 exact_type : (v : ℕ) (x : Operands) → bit_and v 0xFFFFFFFF ≡ v → Keeps Exact v x
@@ -298,17 +439,25 @@ abbrev pub IsFixed : Syntax → ℕ → Type 0
 IsFixed LrType v = (bit_and v 0xF9F0707F ≡ v) × (v / 2 ^ 20 % 2 ^ 5 ≡ 0)
 IsFixed syntax v = bit_and v (mask_of syntax) ≡ v
 
-pub word_keeps : (syntax : Syntax) (v : ℕ) (x : Operands) → IsFixed syntax v → AreInRange (kinds_of syntax) x → Keeps syntax v x
+pub word_keeps : (syntax : Syntax) (v : ℕ) (x : Operands) → IsFixed syntax v → AreInRange (kinds_of syntax) x →
+    Keeps syntax v x
 word_keeps UType v x e r = keeps_opcode UType v x e (u_type (v % 2 ^ 7) 0 (omega arith) (lit< tt) x r)
 word_keeps JType v x e r = keeps_opcode JType v x e (j_type (v % 2 ^ 7) 0 (omega arith) (lit< tt) x r)
 word_keeps IType v x e r = keeps_funct3 IType v x e (i_type (v % 2 ^ 7) (funct3 v) (omega arith) (omega arith) x r)
-word_keeps ShiftType v x e r = keeps_funct7 ShiftType v x e (shift_type (v % 2 ^ 7) (funct3 v) (omega arith) (omega arith) (v / 2 ^ 25 % 2 ^ 7) (omega arith) x r)
-word_keeps LoadType v x e r = keeps_funct3 LoadType v x e (load_type (v % 2 ^ 7) (funct3 v) (omega arith) (omega arith) x r)
+word_keeps ShiftType v x e r = keeps_funct7 ShiftType v x e (shift_type (v % 2 ^ 7) (funct3 v) (omega arith)
+    (omega arith) (v / 2 ^ 25 % 2 ^ 7) (omega arith) x r)
+word_keeps LoadType v x e r = keeps_funct3 LoadType v x e (load_type (v % 2 ^ 7) (funct3 v) (omega arith)
+    (omega arith) x r)
 word_keeps SType v x e r = keeps_funct3 SType v x e (s_type (v % 2 ^ 7) (funct3 v) (omega arith) (omega arith) x r)
 word_keeps BType v x e r = keeps_funct3 BType v x e (b_type (v % 2 ^ 7) (funct3 v) (omega arith) (omega arith) x r)
-word_keeps RType v x e r = keeps_funct7 RType v x e (r_type (v % 2 ^ 7) (funct3 v) (omega arith) (omega arith) (v / 2 ^ 25 % 2 ^ 7) (omega arith) x r)
-word_keeps CsrType v x e r = keeps_funct3 CsrType v x e (csr_type (v % 2 ^ 7) (funct3 v) (omega arith) (omega arith) x r)
-word_keeps CsrNumberType v x e r = keeps_funct3 CsrNumberType v x e (csr_number_type (v % 2 ^ 7) (funct3 v) (omega arith) (omega arith) x r)
+word_keeps RType v x e r = keeps_funct7 RType v x e (r_type (v % 2 ^ 7) (funct3 v) (omega arith) (omega arith)
+    (v / 2 ^ 25 % 2 ^ 7) (omega arith) x r)
+word_keeps CsrType v x e r = keeps_funct3 CsrType v x e (csr_type (v % 2 ^ 7) (funct3 v) (omega arith)
+    (omega arith) x r)
+word_keeps CsrNumberType v x e r = keeps_funct3 CsrNumberType v x e (csr_number_type (v % 2 ^ 7) (funct3 v)
+    (omega arith) (omega arith) x r)
 word_keeps Exact v x e r = exact_type v x e
-word_keeps LrType v x e r = keeps_lr v x e.0 e.1 (lr_type (v % 2 ^ 7) (funct3 v) (omega arith) (omega arith) (v / 2 ^ 27 % 2 ^ 5) (omega arith) x r)
-word_keeps AmoType v x e r = keeps_funct5 AmoType v x e (amo_type (v % 2 ^ 7) (funct3 v) (omega arith) (omega arith) (v / 2 ^ 27 % 2 ^ 5) (omega arith) x r)
+word_keeps LrType v x e r = keeps_lr v x e.0 e.1 (lr_type (v % 2 ^ 7) (funct3 v) (omega arith) (omega arith)
+    (v / 2 ^ 27 % 2 ^ 5) (omega arith) x r)
+word_keeps AmoType v x e r = keeps_funct5 AmoType v x e (amo_type (v % 2 ^ 7) (funct3 v) (omega arith)
+    (omega arith) (v / 2 ^ 27 % 2 ^ 5) (omega arith) x r)

@@ -58,7 +58,16 @@ wide_of _ w = csr w
 -- the values of the operands, read from the word
 unfoldable pub operands_of : Syntax → ℕ → Operands
 operands_of syntax w =
-    record { rd = rd w; rs1 = rs1 w; rs2 = rs2 w; imm = imm_of syntax w; wide = wide_of syntax w; aq = aq w; rl = rl w }
+    record {
+      rd = rd w;
+      rs1 = rs1 w;
+      rs2 = rs2 w;
+      imm = imm_of syntax w;
+      wide =
+          wide_of syntax w;
+      aq = aq w;
+      rl = rl w;
+    }
 
 -- the word: the bits that don't depend on the operands, and each operand in its place
 unfoldable pub word_of : Syntax → ℕ → Operands → ℕ

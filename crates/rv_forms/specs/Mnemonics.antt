@@ -1,6 +1,7 @@
--- The names of the instructions, in the order of the alphabet, each with the word of the instruction
--- without its operands (RISC-V unprivileged, "RV32/64G Instruction Set Listings"; privileged, "RISC-V
--- Privileged Instruction Set Listings"). After the names of the A extension the order bits are written.
+-- The names of the instructions, in the order of the alphabet, each with the word of the
+-- instruction without its operands (RISC-V unprivileged, "RV32/64G Instruction Set Listings";
+-- privileged, "RISC-V Privileged Instruction Set Listings"). After the names of the A extension the
+-- order bits are written.
 use Rattle.std.specs.Prelude.{ℕ, Bool, true, List, [], ◌∷◌, Option, ◌==◌, ◌&&◌, bit_and, codes}
 use Rattle.std.specs.Cmp.Lexicographic.{slice_cmp}
 use Rattle.std.specs.List.{find, list_all}
@@ -93,7 +94,8 @@ mnemonics =
 -- the names rise, and none stands twice
 abbrev pub are_rising : List Mnemonic → Bool
 are_rising [] = true
-are_rising (m ∷ ms) = list_all (λ later. is_lt (slice_cmp nat_cmp m.name later.name)) ms && are_rising ms
+are_rising (m ∷ ms) = list_all (λ later. is_lt (slice_cmp nat_cmp m.name later.name)) ms
+    && are_rising ms
 
 -- and no word without operands has bits where operands stand
 abbrev pub is_table : List Mnemonic → Bool

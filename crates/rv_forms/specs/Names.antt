@@ -51,8 +51,10 @@ named name = find (λ m. bytes_eq m.name name) mnemonics
 
 -- the order bits stand behind the names of the A extension alone
 abbrev pub with_order : Option (Bool × Bool) → Mnemonic → Option Name
-with_order None m = if is_ordered m.syntax then None else Some (record { mnemonic = m; aq = false; rl = false })
-with_order (Some order) m = if is_ordered m.syntax then Some (record { mnemonic = m; aq = order.0; rl = order.1 }) else None
+with_order None m = if is_ordered m.syntax then None
+    else Some (record { mnemonic = m; aq = false; rl = false })
+with_order (Some order) m = if is_ordered m.syntax
+    then Some (record { mnemonic = m; aq = order.0; rl = order.1 }) else None
 
 abbrev pub base_of : Option (Bool × Bool) → List ℕ → List ℕ → List ℕ
 base_of None text front = text

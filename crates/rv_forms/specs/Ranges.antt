@@ -55,4 +55,5 @@ pub record Keeps (syntax : Syntax) (value : ℕ) (f : Operands) : Type 0 where
   pub below : word_of syntax value f < 2 ^ 32
   pub fixed : bit_and (word_of syntax value f) (mask_of syntax) ≡ value
   pub operands : AreSame (kinds_of syntax) f (operands_of syntax (word_of syntax value f))
-  pub order : OnTrue (is_ordered syntax) ((f.aq ≡ aq (word_of syntax value f)) × (f.rl ≡ rl (word_of syntax value f)))
+  pub order : OnTrue (is_ordered syntax) ((f.aq ≡ aq (word_of syntax value f))
+      × (f.rl ≡ rl (word_of syntax value f)))

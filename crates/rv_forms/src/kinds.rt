@@ -67,8 +67,9 @@ pub enum Syntax {
     AmoType,
 }
 
-/// The values of a statement's operands. `imm` is a signed immediate or a distance, and `wide` a CSR's
-/// number, the upper 20 bits or a word. A shift amount stands in `rs2`, a 5-bit number in `rs1`. `aq` and
+/// The values of a statement's operands. `imm` is a signed immediate or a distance, and `wide` a
+/// CSR's number, the upper 20 bits or a word. A shift amount stands in `rs2`, a 5-bit number in
+/// `rs1`. `aq` and
 /// `rl` are the order bits, acquire and release.
 #[derive(Clone, Copy)]
 pub struct Operands {

@@ -1,5 +1,5 @@
-//! The statements of assembly text: the name of each instruction, what its operands are, and the word
-//! that a statement stands for, both ways.
+//! The statements of assembly text: the name of each instruction, what its operands are, and the
+//! word that a statement stands for, both ways.
 #![tactic(auto)]
 
 mod kinds;

@@ -104,7 +104,8 @@ fn mnemonic_of_row(name: &'static str, syntax: Syntax, value: u32) -> Mnemonic
 /// The row with this name, found by halving the table.
 fn row_named(rows: &[Row], name: &[u8]) -> Option<Mnemonic>
     requires { IsTrue (is_table (map (λ r. row_of r.0.now r.1 r.2) rows.now)) }
-    ensures { option_map mnemonic result ≡ find (λ m. bytes_eq m.name name.now) (map (λ r. row_of r.0.now r.1 r.2) rows.now) }
+    ensures { option_map mnemonic result
+        ≡ find (λ m. bytes_eq m.name name.now) (map (λ r. row_of r.0.now r.1 r.2) rows.now) }
 {
     let by_name = |row: &Row| -> Ordering
         ensures { result ≡ slice_cmp nat_cmp row.now.0.now name.entry.now }
@@ -121,7 +122,8 @@ fn row_named(rows: &[Row], name: &[u8]) -> Option<Mnemonic>
 /// The first row that the word fits.
 fn row_that_fits(rows: &[Row], word: u32) -> Option<Mnemonic>
     requires { IsTrue (is_table (map (λ r. row_of r.0.now r.1 r.2) rows.now)) }
-    ensures { option_map mnemonic result ≡ find (λ m. fits m word) (map (λ r. row_of r.0.now r.1 r.2) rows.now) }
+    ensures { option_map mnemonic result
+        ≡ find (λ m. fits m word) (map (λ r. row_of r.0.now r.1 r.2) rows.now) }
 {
     for (name, syntax, value) in rows {
         if word & mask_of(*syntax) == *value {

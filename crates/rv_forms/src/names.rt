@@ -56,7 +56,8 @@ fn is_ordered(syntax: Syntax) -> bool
     matches!(syntax, Syntax::LrType | Syntax::AmoType)
 }
 
-/// The mnemonic with these order bits, which only the names of the A extension have, and they always.
+/// The mnemonic with these order bits, which only the names of the A extension have, and they
+/// always.
 fn with_order(order: Option<(bool, bool)>, row: Mnemonic) -> Option<Name>
     ensures { option_map name result ≡ with_order order (mnemonic row) }
 {
@@ -116,7 +117,8 @@ fn order_text(aq: bool, rl: bool) -> &'static str
 
 /// Appends a name. After an error the string begins with what it held.
 pub fn push_name(into: &mut String, name: Name) -> Result<(), AllocError>
-    ensures ok { OnOk result (string_bytes into.new ≡ string_bytes into.old ++ name_text (mnemonic name.mnemonic) name.aq name.rl) }
+    ensures ok { OnOk result (string_bytes into.new
+        ≡ string_bytes into.old ++ name_text (mnemonic name.mnemonic) name.aq name.rl) }
     ensures err { OnErr result (Begins (string_bytes into.old) (string_bytes into.new)) }
 {
     into.push_str(name.mnemonic.name)?;

@@ -25,7 +25,8 @@ reverse_is t back = reverse-append (t ∷ []) back
 pub one_more : (t : Token) (back : List Token) →
     primary_turns (reverse back) ++ primary_turns (t ∷ []) ≡ primary_turns (reverse (t ∷ back))
 one_more t back =
-    sym (primary_append (reverse back) (t ∷ [])) ∙ ap (λ (ts : List Token). primary_turns ts) (sym (reverse_is t back))
+    sym (primary_append (reverse back) (t ∷ [])) ∙ ap (λ (ts : List Token). primary_turns ts) (sym
+    (reverse_is t back))
 
 pub none_more : (t : Token) (back : List Token) → primary_turns (t ∷ []) ≡ [] →
     primary_turns (reverse back) ≡ primary_turns (reverse (t ∷ back))

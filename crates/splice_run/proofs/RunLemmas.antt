@@ -330,7 +330,8 @@ turn_stands : (before : Before) (d : ℕ) (f : TurnFrame) (b n : ℕ) →
 turn_stands before d frame.Absent b n =
     in_order before (item_words (item.Turn (record { d = d; frame = frame.Absent; b = b; n = n }))) refl refl refl
 turn_stands before d (frame.Plain index) b n =
-    in_order before (item_words (item.Turn (record { d = d; frame = frame.Plain index; b = b; n = n }))) refl refl refl
+    in_order before (item_words (item.Turn
+    (record { d = d; frame = frame.Plain index; b = b; n = n }))) refl refl refl
 turn_stands before d (frame.Seen index opening) b n =
     in_order before (item_words (item.Turn (record {
       d = d;

@@ -98,11 +98,13 @@ nothing_left m xs ys = refl
 write_short : (m : Memory) (p : Part) (parts : List Part) (xs ys : List ℕ)
     → is_inside (length m.bytes) p.addr p.len ≡ true
     → length xs < p.len
-    → write_joined (write_joined m (p ∷ parts) xs) (skip (length xs) (p ∷ parts)) ys ≡ write_joined m (p ∷ parts) (xs ++ ys)
+    → write_joined (write_joined m (p ∷ parts) xs) (skip (length xs) (p ∷ parts)) ys
+    ≡ write_joined m (p ∷ parts) (xs ++ ys)
 write_short m p parts xs ys inside short =
     let first : write_joined m (p ∷ parts) xs ≡ with_part m p.addr xs =
     write_cons m p parts xs
-    ∙ (ap (λ (x : List ℕ). write_joined (with_part m p.addr x) parts (drop p.len xs)) (take_all p.len xs (omega arith))
+    ∙ (ap (λ (x : List ℕ). write_joined (with_part m p.addr x) parts (drop p.len xs)) (take_all p.len xs
+    (omega arith))
     ∙ (ap (λ (x : List ℕ). write_joined (with_part m p.addr xs) parts x) (drop_all p.len xs (omega arith))
     ∙ write_nothing (with_part m p.addr xs) parts)) in
     let split : length xs + (p.len - length xs) ≡ p.len = omega arith in
@@ -134,13 +136,16 @@ write_append m (p ∷ parts) xs ys inside few =
     let rest : length xs - p.len ≡ length (drop p.len xs) = sym (length-drop p.len xs) in
     let same : length (with_part m p.addr (take p.len xs)).bytes ≡ length m.bytes = size_kept m p xs all.0 in
     ap (λ (x : Memory). write_joined x (skip (length xs) (p ∷ parts)) ys) (write_cons m p parts xs)
-    ∙ (ap (λ (ps : List Part). write_joined (write_joined (with_part m p.addr (take p.len xs)) parts (drop p.len xs)) ps ys)
+    ∙ (ap (λ (ps : List Part). write_joined (write_joined (with_part m p.addr (take p.len xs)) parts
+    (drop p.len xs)) ps ys)
     (skip_past (length xs) p parts long ∙ ap (λ (n : ℕ). skip n parts) rest)
     ∙ (write_append (with_part m p.addr (take p.len xs)) parts (drop p.len xs) ys
     (subst (λ (n : ℕ). parts_inside n parts ≡ true) (sym same) all.1) (omega (arith, length-drop p.len xs))
     ∙ sym (write_cons m p parts (xs ++ ys)
-    ∙ (ap (λ (x : List ℕ). write_joined (with_part m p.addr x) parts (drop p.len (xs ++ ys))) (take-append-le p.len xs ys long)
-    ∙ ap (λ (x : List ℕ). write_joined (with_part m p.addr (take p.len xs)) parts x) (drop-append-le p.len xs ys long))))))
+    ∙ (ap (λ (x : List ℕ). write_joined (with_part m p.addr x) parts (drop p.len (xs
+    ++ ys))) (take-append-le p.len xs ys long)
+    ∙ ap (λ (x : List ℕ). write_joined (with_part m p.addr (take p.len xs)) parts x)
+    (drop-append-le p.len xs ys long))))))
     (cases_lt (length xs) p.len)
 
 -- the parts of one kind are in memory with all

@@ -18,7 +18,8 @@ by_ring d m k (Err fault) e = absurd (cc)
 pub serve_given : (d : Device) (m : Memory) (k : DiskState) → (is_live d && d.first.ready) ≡ true
     → Ok true ≡ is_given (next_chain m.bytes d.first)
     → serve d m k
-    ≡ serve_chain (record d { first = after_chain d.first (next_chain m.bytes d.first) }) m k (chain_of (next_chain m.bytes d.first))
+    ≡ serve_chain (record d { first = after_chain d.first (next_chain m.bytes d.first) }) m k (chain_of
+    (next_chain m.bytes d.first))
 unfolding serve
 serve_given d m k live given = rw live (by_ring d m k (next_chain m.bytes d.first) given)
 

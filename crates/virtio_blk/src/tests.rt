@@ -33,7 +33,8 @@ impl Disk for OneSector {
     }
 }
 
-/// A device whose queue of 4 stands at 0x80000000 (descriptors), 0x80000100 (available) and 0x80000200 (used).
+/// A device whose queue of 4 stands at 0x80000000 (descriptors), 0x80000100 (available) and
+/// 0x80000200 (used).
 fn running() -> Blk {
     let mut blk = Blk::new(1);
     for (offset, value) in [
@@ -111,8 +112,8 @@ fn sector_behind_the_disk(rt: HostRuntime) -> Result<(), Fail> {
     Ok(())
 }
 
-/// OUT from a header with 4 bytes behind it and a part of 508 bytes; then the same chain as FLUSH, and with a type of no
-/// meaning.
+/// OUT from a header with 4 bytes behind it and a part of 508 bytes; then the same chain as FLUSH,
+/// and with a type of no meaning.
 #[test]
 fn sector_written_from_two_parts(rt: HostRuntime) -> Result<(), Fail> {
     let mut ram = Ram::new(rt.alloc(), 1)?;

@@ -88,7 +88,11 @@ first_then n so_far port rest Idle e ih = record {
   k = 0;
   within = omega arith;
   each = λ j lt. absurd (omega arith);
-  all = inl (inr e, ap (λ (s : Sending). let idle : Sending = record s { answer = so_far } in idle) (idle_step port e));
+  all = inl (
+    inr e,
+    ap (λ (s : Sending). let idle : Sending = record s { answer = so_far } in idle)
+        (idle_step port e),
+  );
 }
 first_then n so_far port rest (Broken fault) e ih = record {
   k = 0;

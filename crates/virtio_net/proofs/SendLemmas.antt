@@ -186,7 +186,8 @@ sends_go_on start now num k so_far before out next more u lt done is frames = re
       ∙ append_assoc before u.frames (send_chain now).frames);
   rest = ap (λ (p : Port). after_frames (u.frames ++ (send_chain now).frames) (send_chains (num - (k + 1)) Done p)) is
       ∙ (sym (after_both u.frames (send_chain now).frames (send_chains (num - (k + 1)) Done (send_chain now).port))
-      ∙ (sym (ap (λ (a : Served). after_frames u.frames (follow_by a (send_chain now) so_far (send_chains (num - (k + 1))
+      ∙ (sym (ap (λ (a : Served). after_frames u.frames (follow_by a (send_chain now) so_far (send_chains (num -
+      (k + 1))
       Done (send_chain now).port))) done)
       ∙ rest_is start now num k so_far before out u lt));
   works = ap (λ (p : Port). works_on p.card.device send_queue) is ∙ (works_on_after now done ∙ u.works);
@@ -199,7 +200,8 @@ pub record IsSent (sending : Sending) (answer : Served) (port : Port) (before ou
   pub frames_are : out ≡ before ++ sending.frames
 
 -- a notify that ends at a chain, or without one
-pub sends_end : (start now : Port) (num k : ℕ) (so_far : Served) (before out : List (List ℕ)) (last : Served) (answer :
+pub sends_end : (start now : Port) (num k : ℕ) (so_far : Served) (before out : List (List ℕ)) (last : Served)
+    (answer :
     Served) (next : Port)
     (more : List (List ℕ)) → Underway start now num k so_far before out → k < num → (send_chain now).answer ≡ last →
     ((rest : Sending) → follow_by last (send_chain now) so_far rest ≡ record (send_chain now) { answer = answer }) →
@@ -214,7 +216,8 @@ sends_end start now num k so_far before out last answer next more u lt last_is e
       answer_is = sym (ap (λ (s : Sending). s.answer) whole);
       port_is = is ∙ sym (ap (λ (s : Sending). s.port) whole);
       frames_are = frames ∙ (ap (λ (x : List (List ℕ)). x ++ (send_chain now).frames) u.out_is
-          ∙ (append_assoc before u.frames (send_chain now).frames ∙ sym (ap (λ (s : Sending). before ++ s.frames) whole)));
+          ∙ (append_assoc before u.frames (send_chain now).frames
+          ∙ sym (ap (λ (s : Sending). before ++ s.frames) whole)));
     }
 
 pub sends_all : (start now : Port) (num k : ℕ) (so_far : Served) (before out : List (List ℕ)) →

@@ -5,8 +5,12 @@ use Rattle.ascii_text.proofs.numbers.value_within.Goals as goal
 
 pub returns-in_default : goal.returns-in_default
 returns-in_default c =
-    let digit : c.digit_value.result ≡ digit_value (get_or c.args.digits.now c.loop-byte.byte-index 0) = c.digit_value.ensures in
-    let large : c.args.most < c.loop-byte.value * c.args.base + c.digit_value.result = omega (arith, c.in_default.ensures) in
+    let digit : c.digit_value.result ≡ digit_value
+    (get_or c.args.digits.now c.loop-byte.byte-index 0) = c.digit_value.ensures in
+    let large : c.args.most < c.loop-byte.value * c.args.base + c.digit_value.result = omega (
+      arith,
+      c.in_default.ensures,
+    ) in
     sym (still_large c.args.base c.args.most c.args.digits.now c.loop-byte.byte-index c.loop-byte.value c.requires c.loop-byte-test.true c.loop-byte.invariant.value (rw digit at large))
 
 pub loop-byte-preserved : goal.loop-byte-preserved

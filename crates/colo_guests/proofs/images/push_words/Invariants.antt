@@ -4,4 +4,5 @@ use Rattle.std.specs.List.{flat_map}
 use Rattle.colo_guests.proofs.images.push_words.Given as goal
 
 abbrev pub invariant-loop-word : goal.invariant-loop-word
-invariant-loop-word l = l.bytes.items ≡ l.initial.bytes.items ++ flat_map (to_le_bytes w32) (take l.word-index l.words)
+invariant-loop-word l = l.bytes.items ≡ l.initial.bytes.items
+    ++ flat_map (to_le_bytes w32) (take l.word-index l.words)

@@ -12,7 +12,8 @@ place-requires-clause-no_overrun c =
 
 pub place-requires-clause-inside : goal.place-requires-clause-inside
 place-requires-clause-inside c =
-    rw (c.loop-k.auto.memory) (no_segment c.args.bytes.now c.loop-k.k (lies_outside (length c.args.memory.now)) c.header-segment.result
+    rw (c.loop-k.auto.memory) (no_segment c.args.bytes.now c.loop-k.k (lies_outside
+    (length c.args.memory.now)) c.header-segment.result
     c.requires.inside (omega arith) c.header-segment.ensures c.if-is_load.ensures)
 
 pub loop-k-preserved : goal.loop-k-preserved

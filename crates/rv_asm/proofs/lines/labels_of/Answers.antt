@@ -16,18 +16,26 @@ loop-index-preserved c =
     let is_text = c.as_bytes.ensures.value in
     let place : Place = record { line = i; words = here } in
     let label : option_copied c.line_of-line.result.label ≡ (line_of text).label = c.line_of-line.ensures.label in
-    let count : c.word_count-words.result ≡ word_count (line_of text).statement = c.word_count-words.ensures.count ∙ ap word_count c.line_of-line.ensures.statement in
+    let count : c.word_count-words.result ≡ word_count
+    (line_of text).statement = c.word_count-words.ensures.count
+    ∙ ap word_count c.line_of-line.ensures.statement in
     record {
       small = omega (arith, c.word_count-words.ensures.small);
       known = λ name.
           let later : ℕ → Option Place = λ n. place_from (drop (i + 1) lines) (i + 1) (here + n) name in
-          let later_lines : ℕ → Option Place = λ n. place_from (drop n lines) (i + 1) (here + word_count (line_of text).statement) name in
-          let from : place_from (drop i lines) i here name ≡ from_here (line_of text).label i here name (later_lines (suc i)) = from_line c.args.lines.now i here name _ c.loop-index-test.true ∙ ap (λ (t : List ℕ). from_here (line_of t).label i here name (place_from (drop (suc i) lines) (i + 1) (here + word_count (line_of t).statement) name)) (sym is_text) in
+          let later_lines : ℕ → Option Place = λ n. place_from (drop n lines) (i + 1) (here + word_count
+          (line_of text).statement) name in
+          let from : place_from (drop i lines) i here name ≡ from_here (line_of text).label i here name
+          (later_lines (suc i)) = from_line c.args.lines.now i here name _ c.loop-index-test.true
+          ∙ ap (λ (t : List ℕ). from_here (line_of t).label i here name (place_from (drop (suc i) lines)
+          (i + 1) (here + word_count (line_of t).statement) name)) (sym is_text) in
           ap (λ (p : Option Place). option_or p (later c.word_count-words.result)) (c.in_ok-add_label.ensures name)
-          ∙ (ap (λ (n : ℕ). option_or (with_label (option_copied c.line_of-line.result.label) place known name) (later n)) count
+          ∙ (ap (λ (n : ℕ). option_or (with_label (option_copied c.line_of-line.result.label) place known name)
+          (later n)) count
           ∙ (ap (λ (l : Option (List ℕ)). option_or (with_label l place known name) (later_lines (i + 1))) label
           ∙ (label_step (line_of text).label place known (later_lines (i + 1)) name
-          ∙ (ap (λ (n : ℕ). option_or (known name) (from_here (line_of text).label i here name (later_lines n))) (add-one i)
+          ∙ (ap (λ (n : ℕ). option_or (known name) (from_here (line_of text).label i here name (later_lines n)))
+          (add-one i)
           ∙ (ap (λ (p : Option Place). option_or (known name) p) (sym from)
           ∙ c.loop-index.invariant.known name)))));
     }
@@ -36,6 +44,7 @@ pub returns : goal.returns
 returns c = record {
   places = λ name.
       sym (or_none (place_in c.loop-index.labels name))
-      ∙ (ap (λ (p : Option Place). option_or (place_in c.loop-index.labels name) p) (sym (from_end c.args.lines.now c.loop-index.index c.loop-index.words name c.loop-index-test.false))
+      ∙ (ap (λ (p : Option Place). option_or (place_in c.loop-index.labels name) p) (sym
+      (from_end c.args.lines.now c.loop-index.index c.loop-index.words name c.loop-index-test.false))
       ∙ c.loop-index.invariant.known name);
 }

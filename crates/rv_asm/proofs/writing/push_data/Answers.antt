@@ -10,5 +10,6 @@ unfolding statement_text operand_texts operand_text
 returns-clause-ok c =
     let text = word_text c.args.word in
     on_ok_weaker c.push_word.result
-    (λ e. e ∙ (ap (λ (b : List ℕ). b ++ text) c.in_ok-push_str.ensures.bytes ∙ append_assoc (string_bytes c.args.into.now) (codes ".word ") text))
+    (λ e. e ∙ (ap (λ (b : List ℕ). b ++ text) c.in_ok-push_str.ensures.bytes
+    ∙ append_assoc (string_bytes c.args.into.now) (codes ".word ") text))
     c.push_word.ensures.ok

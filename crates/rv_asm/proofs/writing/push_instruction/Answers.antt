@@ -20,7 +20,12 @@ returns-clause-ok c =
     let name = name_text m (aq c.args.word) (rl c.args.word) in
     let is_aq : values.aq ≡ aq c.args.word = ap (λ (v : Operands). v.aq) same in
     let is_rl : values.rl ≡ rl c.args.word = ap (λ (v : Operands). v.rl) same in
-    let bytes : string_bytes c.push_name.new.into ≡ old ++ name = c.in_ok-push_name.ensures.ok ∙ (ap (λ (b : Bool). old ++ name_text m b values.rl) is_aq ∙ ap (λ (b : Bool). old ++ name_text m (aq c.args.word) b) is_rl) in
+    let bytes : string_bytes c.push_name.new.into ≡ old ++ name = c.in_ok-push_name.ensures.ok
+    ∙ (ap (λ (b : Bool). old ++ name_text m b values.rl) is_aq
+    ∙ ap (λ (b : Bool). old ++ name_text m (aq c.args.word) b) is_rl) in
     on_ok_weaker c.push_after_name.result
-    (λ e. e ∙ (ap (λ (b : List ℕ). statement_text b c.kinds_of.result.now values) bytes ∙ (ap (λ (ks : List Kind). statement_text (old ++ name) ks values) c.kinds_of.ensures ∙ (ap (λ (v : Operands). statement_text (old ++ name) (kinds_of c.args.row.syntax) v) same ∙ after_text old name (kinds_of c.args.row.syntax) (operands_of c.args.row.syntax c.args.word)))))
+    (λ e. e ∙ (ap (λ (b : List ℕ). statement_text b c.kinds_of.result.now values) bytes
+    ∙ (ap (λ (ks : List Kind). statement_text (old ++ name) ks values) c.kinds_of.ensures
+    ∙ (ap (λ (v : Operands). statement_text (old ++ name) (kinds_of c.args.row.syntax) v) same
+    ∙ after_text old name (kinds_of c.args.row.syntax) (operands_of c.args.row.syntax c.args.word)))))
     c.push_after_name.ensures.ok

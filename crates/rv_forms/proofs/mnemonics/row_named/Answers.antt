@@ -11,10 +11,15 @@ mnemonic_of_row-requires c = row_fixed c.args.rows.now c.in-Ok.index _ c.require
 
 pub returns-in-Ok : goal.returns-in-Ok
 returns-in-Ok c =
-    let by_name = c.in-Ok.ensures.position (λ (y : Row). slice_cmp nat_cmp y.0.now c.args.name.now) (always_returns_same _ _ _ (λ a r g called. search rules)) in
-    ap (λ (m : Mnemonic). Some m) c.mnemonic_of_row.ensures ∙ sym (searched c.args.rows.now c.args.name.now (Ok c.in-Ok.index) (table_rises c.args.rows.now c.requires) c.in-Ok.ensures.bound by_name _)
+    let by_name = c.in-Ok.ensures.position (λ (y : Row). slice_cmp nat_cmp y.0.now c.args.name.now)
+    (always_returns_same _ _ _ (λ a r g called. search rules)) in
+    ap (λ (m : Mnemonic). Some m) c.mnemonic_of_row.ensures
+    ∙ sym (searched c.args.rows.now c.args.name.now (Ok c.in-Ok.index)
+    (table_rises c.args.rows.now c.requires) c.in-Ok.ensures.bound by_name _)
 
 pub returns-in-Err : goal.returns-in-Err
 returns-in-Err c =
-    let by_name = c.in-Err.ensures.position (λ (y : Row). slice_cmp nat_cmp y.0.now c.args.name.now) (always_returns_same _ _ _ (λ a r g called. search rules)) in
-    sym (searched c.args.rows.now c.args.name.now (Err c.in-Err.field-0) (table_rises c.args.rows.now c.requires) c.in-Err.ensures.bound by_name)
+    let by_name = c.in-Err.ensures.position (λ (y : Row). slice_cmp nat_cmp y.0.now c.args.name.now)
+    (always_returns_same _ _ _ (λ a r g called. search rules)) in
+    sym (searched c.args.rows.now c.args.name.now (Err c.in-Err.field-0)
+    (table_rises c.args.rows.now c.requires) c.in-Err.ensures.bound by_name)

@@ -8,7 +8,8 @@ pub returns-in-Ok-true-clause-answer : goal.returns-in-Ok-true-clause-answer
 returns-in-Ok-true-clause-answer g c =
     c.serve_chain.ensures.answer
     ∙ ap (λ (s : Serving). s.answer)
-    (serves_so c.args.self.now c.next_chain.new.self c.args.ram.now (g.D.Disk.state c.args.disk.now) c.next_chain.new.chain
+    (serves_so c.args.self.now c.next_chain.new.self c.args.ram.now
+    (g.D.Disk.state c.args.disk.now) c.next_chain.new.chain
     (grind (arith)) (ap Ok (sym c.in-Ok-true.field-0-test) ∙ sym c.in-Ok-true.is ∙ c.next_chain.ensures.answer)
     c.next_chain.ensures.device c.next_chain.ensures.chain)
 
@@ -16,7 +17,8 @@ pub returns-in-Ok-true-clause-device : goal.returns-in-Ok-true-clause-device
 returns-in-Ok-true-clause-device g c =
     c.serve_chain.ensures.device
     ∙ ap (λ (s : Serving). s.device)
-    (serves_so c.args.self.now c.next_chain.new.self c.args.ram.now (g.D.Disk.state c.args.disk.now) c.next_chain.new.chain
+    (serves_so c.args.self.now c.next_chain.new.self c.args.ram.now
+    (g.D.Disk.state c.args.disk.now) c.next_chain.new.chain
     (grind (arith)) (ap Ok (sym c.in-Ok-true.field-0-test) ∙ sym c.in-Ok-true.is ∙ c.next_chain.ensures.answer)
     c.next_chain.ensures.device c.next_chain.ensures.chain)
 
@@ -24,6 +26,7 @@ pub returns-in-Ok-true-clause-memory : goal.returns-in-Ok-true-clause-memory
 returns-in-Ok-true-clause-memory g c =
     c.serve_chain.ensures.memory
     ∙ ap (λ (s : Serving). s.memory)
-    (serves_so c.args.self.now c.next_chain.new.self c.args.ram.now (g.D.Disk.state c.args.disk.now) c.next_chain.new.chain
+    (serves_so c.args.self.now c.next_chain.new.self c.args.ram.now
+    (g.D.Disk.state c.args.disk.now) c.next_chain.new.chain
     (grind (arith)) (ap Ok (sym c.in-Ok-true.field-0-test) ∙ sym c.in-Ok-true.is ∙ c.next_chain.ensures.answer)
     c.next_chain.ensures.device c.next_chain.ensures.chain)

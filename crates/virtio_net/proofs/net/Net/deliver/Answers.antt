@@ -26,7 +26,8 @@ pub give_back-requires-clause-ring : goal.give_back-requires-clause-ring
 give_back-requires-clause-ring c =
     let port = port_of c.args.self.now c.args.ram.now in
     let some = given_some (next_of port receive_queue)
-    (sym c.in_ok-take.ensures.answer ∙ ap (λ (b : Bool). let r : Result Bool RingFault = Ok b in r) c.if-branch.true) in
+    (sym c.in_ok-take.ensures.answer ∙ ap (λ
+    (b : Bool). let r : Result Bool RingFault = Ok b in r) c.if-branch.true) in
     let ring = ring_of_chain c.args.ram.now.bytes c.args.self.now.device.first _ some in
     let card = c.take.ensures.card ∙ ap (λ r. (take_chain port receive_queue r).card) some in
     rw (c.fill-len.ensures.size, card) ring
@@ -35,7 +36,8 @@ pub returns-then-branch-clause-answer : goal.returns-then-branch-clause-answer
 returns-then-branch-clause-answer c =
     let port = port_of c.args.self.now c.args.ram.now in
     let some = given_some (next_of port receive_queue)
-    (sym c.in_ok-take.ensures.answer ∙ ap (λ (b : Bool). let r : Result Bool RingFault = Ok b in r) c.if-branch.true) in
+    (sym c.in_ok-take.ensures.answer ∙ ap (λ
+    (b : Bool). let r : Result Bool RingFault = Ok b in r) c.if-branch.true) in
     let card = c.take.ensures.card ∙ ap (λ r. (take_chain port receive_queue r).card) some in
     let chain = c.take.ensures.chain in
     let is = deliver_chain port c.args.frame.now _ c.take.new.self c.fill-len.new.ram c.head.result c.fill-len.result
@@ -49,7 +51,8 @@ pub returns-then-branch-clause-port : goal.returns-then-branch-clause-port
 returns-then-branch-clause-port c =
     let port = port_of c.args.self.now c.args.ram.now in
     let some = given_some (next_of port receive_queue)
-    (sym c.in_ok-take.ensures.answer ∙ ap (λ (b : Bool). let r : Result Bool RingFault = Ok b in r) c.if-branch.true) in
+    (sym c.in_ok-take.ensures.answer ∙ ap (λ
+    (b : Bool). let r : Result Bool RingFault = Ok b in r) c.if-branch.true) in
     let card = c.take.ensures.card ∙ ap (λ r. (take_chain port receive_queue r).card) some in
     let chain = c.take.ensures.chain in
     let is = deliver_chain port c.args.frame.now _ c.take.new.self c.fill-len.new.ram c.head.result c.fill-len.result

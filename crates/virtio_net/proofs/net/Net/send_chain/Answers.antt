@@ -44,7 +44,8 @@ returns-in-Err-clause-port c =
     let port = port_of c.args.self.now c.args.ram.now in
     let fault = given_err (next_of port send_queue) c.in-Err.fault (sym c.in-Err.ensures.answer) in
     let card = c.take.ensures.card ∙ ap (λ r. (take_chain port send_queue r).card) fault in
-    ap (λ x. port_of x c.args.ram.now) card ∙ sym (ap (λ (x : Sending). x.port) (send_fault port c.in-Err.fault fault))
+    ap (λ x. port_of x c.args.ram.now) card ∙ sym (ap (λ (x : Sending). x.port)
+    (send_fault port c.in-Err.fault fault))
 
 pub returns-in-Err-clause-frames : goal.returns-in-Err-clause-frames
 returns-in-Err-clause-frames c =
