@@ -1,8 +1,6 @@
 pub mod BoardLemmas
 pub mod StepLemmas
 pub mod BootLemmas
-pub mod NumberLemmas
-pub mod ScheduleLemmas
 pub mod LogLemmas
 pub mod WordLemmas
 pub mod CaseLemmas

@@ -1,18 +1,13 @@
 -- The text of a log as it is written.
-use Rattle.std.proofs.Common.{◌≡◌, ◌<◌, ◌^◌, List, [], ◌∷◌, decimal, min, length, sum_by, ◌-◌, refl, append_assoc, arith, lit<}
+use Rattle.std.proofs.Common.{◌≡◌, ◌<◌, ◌^◌, List, [], ◌∷◌, decimal, min, length, sum_by, ◌-◌, refl, arith, lit<}
 use Rattle.std.proofs.lemmas.List.{length-map}
 use Rattle.std.proofs.lemmas.Fmt.{decimal_digit}
 use Rattle.colo_top.specs.declared.schedule.Turn.{Turn}
-use Rattle.colo_top.specs.Schedule.{line_words, flag}
-use Rattle.colo_top.specs.Log.{event_text, answer_text, summary_text, released_by, is_capture}
-use Rattle.colo_top.specs.Idle.{idle_event, idle_events, idle_words, summary_words}
+use Rattle.colo_top.specs.Log.{summary_text, released_by, is_capture}
+use Rattle.colo_top.specs.Idle.{idle_event, idle_events, summary_words}
 
 zero_text : decimal 0 ≡ 48 ∷ []
 zero_text = decimal_digit 0 (lit< tt)
-
-pub idle_spelled : (t : Turn) → idle_words t.ticks (flag t.receives) t.requests t.steps ≡ event_text (idle_event t)
-unfolding event_text idle_event line_words answer_text
-idle_spelled t = simp append_assoc (rw zero_text refl)
 
 length_idle : (turns : List Turn) → length (idle_events turns) ≡ length turns
 unfolding idle_events

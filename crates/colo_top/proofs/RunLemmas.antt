@@ -12,6 +12,9 @@ use Rattle.colo_base.specs.Shelf.{ShelfState, NoWriteFailed}
 use Rattle.colo_base.specs.declared.traits.ShelfFault.{ShelfFault}
 use Rattle.colo_base.specs.declared.traits.ShelfFault.TheVariants.{Failed, NoMemory as shelf_memory}
 use Rattle.colo_base.proofs.StateLemmas.{front_itself, front_more}
+use Rattle.replay_log.specs.Texts.{record_text}
+use Rattle.replay_log.specs.declared.records.Record.{Record}
+use Rattle.colo_top.specs.Schedule.{line_of}
 use Rattle.colo_top.specs.declared.fault.Fault.{Fault}
 use Rattle.colo_top.specs.declared.fault.Fault.TheVariants.{Usage, Image, Read, Write, NoMemory, NotBuilt}
 use Rattle.colo_top.specs.declared.output.Output.TheVariants.{Log, Ram, Disk}
@@ -19,7 +22,7 @@ use Rattle.colo_top.specs.declared.schedule.Turn.{Turn}
 use Rattle.colo_top.specs.Command.{replay_outputs}
 use Rattle.colo_top.specs.Files.{file_name, HasFiles, KeepsOrEmpties, WriteFailed, WritesOnly, Appends, AppendsPart}
 use Rattle.colo_top.specs.Idle.{idle_event, idle_events}
-use Rattle.colo_top.specs.Log.{Event, IsIdle, IsLog, schedule_of, single_run, made_turn, event_text, log_text, summary_text}
+use Rattle.colo_top.specs.Log.{IsIdle, IsLog, schedule_of, single_run, made_turn, log_text, summary_text}
 use Rattle.colo_top.specs.Machine.{State, run_turn}
 use Rattle.colo_top.specs.Replay.{Progress, RunDone, RunCutOff, run_files}
 use Rattle.colo_top.specs.Run.{run_from, next_state}
@@ -44,10 +47,10 @@ idle_is_idle : (turn : Turn) → IsIdle (idle_event turn)
 unfolding idle_event
 idle_is_idle turn = record { answer = refl; marks = refl }
 
-idle_schedule : (turns : List Turn) → schedule_of (idle_events turns) ≡ turns
+idle_schedule : (turns : List Turn) → schedule_of (idle_events turns) ≡ map line_of turns
 unfolding idle_events idle_event
 idle_schedule [] = refl
-idle_schedule (t ∷ ts) = ap (λ rest. t ∷ rest) (idle_schedule ts)
+idle_schedule (t ∷ ts) = ap (λ rest. line_of t ∷ rest) (idle_schedule ts)
 
 all_idle : (turns : List Turn) → All IsIdle (idle_events turns)
 unfolding idle_events
@@ -57,17 +60,24 @@ all_idle (t ∷ ts) = All-cons IsIdle (idle_event t) (idle_events ts) (idle_is_i
 pub idle_is_log : (turns : List Turn) → IsLog turns (idle_events turns)
 idle_is_log turns = record { schedule = idle_schedule turns; answers = all_idle turns }
 
-run_is_schedule : (log : List Event) → All IsIdle log → single_run log ≡ schedule_of log
+run_is_schedule : (turns : List Turn) (log : List Record) → schedule_of log ≡ map line_of turns → All IsIdle log
+    → single_run log ≡ turns
 unfolding single_run
-run_is_schedule [] idle = refl
-run_is_schedule (e ∷ es) idle =
-    let head = All-head IsIdle e es idle in
-    ap (λ answer. made_turn e.turn answer ++ flat_map (λ e. made_turn e.turn e.answer) es) head.answer
-    ∙ ap (λ rest. e.turn ∷ rest) (run_is_schedule es (All-tail IsIdle e es idle))
+run_is_schedule [] [] e idle = refl
+run_is_schedule [] (r ∷ rs) e idle = let f : r.line ∷ schedule_of rs ≡ [] = e in cc
+run_is_schedule (t ∷ ts) [] e idle = let f : [] ≡ line_of t ∷ map line_of ts = e in cc
+run_is_schedule (t ∷ ts) (r ∷ rs) e idle =
+    let head = All-head IsIdle r rs idle in
+    let F : List Turn = flat_map (λ r. made_turn r.line r.answer) rs in
+    let line : r.line ≡ line_of t = ap (λ ls. get_or ls 0 (line_of t)) e in
+    let rest : schedule_of rs ≡ map line_of ts = ap (λ ls. drop 1 ls) e in
+    ap (λ l. made_turn l r.answer ++ F) line
+    ∙ (ap (λ a. made_turn (line_of t) a ++ F) head.answer
+    ∙ ap (λ more. t ∷ more) (run_is_schedule ts rs rest (All-tail IsIdle r rs idle)))
 
 -- the single run of such a log is its schedule
-pub run_of_log : (turns : List Turn) (log : List Event) → IsLog turns log → single_run log ≡ turns
-run_of_log turns log h = run_is_schedule log h.answers ∙ h.schedule
+pub run_of_log : (turns : List Turn) (log : List Record) → IsLog turns log → single_run log ≡ turns
+run_of_log turns log h = run_is_schedule turns log h.schedule h.answers
 
 abbrev pub progress_of : (boot last : State) (turns : List Turn) → run_from boot turns ≡ Some last → Progress boot turns
 progress_of boot last turns ran = record {
@@ -81,7 +91,7 @@ progress_of boot last turns ran = record {
 
 pub turn_fails : (old new : ShelfState) (out : List ℕ) (machine last : State) (turn : Turn) (fault : ShelfFault)
     → run_turn machine turn.ticks turn.steps ≡ Some last →
-    AppendsPart old new out Log (event_text (idle_event turn)) → (fault ≡ Failed
+    AppendsPart old new out Log (record_text (idle_event turn)) → (fault ≡ Failed
     → Increased (old.write_faults (file_name out Log)) (new.write_faults (file_name out Log))) →
     TurnFails old new out machine turn (write_fault fault)
 turn_fails old new out machine last turn Failed ran appended cause =
@@ -110,12 +120,12 @@ unfolding run_from
 run_one_more machine made turn = fold_push next_state (Some machine) made turn
 
 log_one_more : (made : List Turn) (turn : Turn) → log_text (idle_events (made ++ (turn ∷
-    []))) ≡ log_text (idle_events made) ++ event_text (idle_event turn)
+    []))) ≡ log_text (idle_events made) ++ record_text (idle_event turn)
 unfolding log_text idle_events
 log_one_more made turn =
-    ap (λ events. flat_map event_text events) (map-append idle_event made (turn ∷ []))
-    ∙ (flat_map-append event_text (map idle_event made) (idle_event turn ∷ [])
-    ∙ ap (λ text. flat_map event_text (map idle_event made) ++ text) (append-nil (event_text (idle_event turn))))
+    ap (λ events. flat_map record_text events) (map-append idle_event made (turn ∷ []))
+    ∙ (flat_map-append record_text (map idle_event made) (idle_event turn ∷ [])
+    ∙ ap (λ text. flat_map record_text (map idle_event made) ++ text) (append-nil (record_text (idle_event turn))))
 
 module _ (start now : ShelfState) (out : List ℕ) (machine here : State) (made : List Turn)
     (so_far : RunGoesOn start now out machine here made) (turn : Turn) where
@@ -130,7 +140,7 @@ module _ (start now : ShelfState) (out : List ℕ) (machine here : State) (made 
   turn_stopped ran = run_one_more machine made turn ∙ (ap (λ s. next_state s turn) so_far.ran ∙ ran)
 
   pub run_next : (new : ShelfState) (last : State) → run_turn here turn.ticks turn.steps ≡ Some last
-      → Appends now new out Log (event_text (idle_event turn)) → WritesOnly out replay_outputs now new
+      → Appends now new out Log (record_text (idle_event turn)) → WritesOnly out replay_outputs now new
       → NoWriteFailed now new →
       RunGoesOn start new out machine last (made ++ (turn ∷ []))
   run_next new last ran appended change writes =
@@ -174,7 +184,7 @@ module _ (start now : ShelfState) (out : List ℕ) (machine here : State) (made 
         log = log_so_far ++ p.0;
         ram = [];
         disk = [];
-        log_part = subst P (sym (log_one_more made turn)) (front_more log_so_far (event_text
+        log_part = subst P (sym (log_one_more made turn)) (front_more log_so_far (record_text
             (idle_event turn)) p.0 p.1);
         ram_part = refl;
         disk_part = refl;
@@ -218,7 +228,7 @@ split_at_turn turns i h =
 pub run_next_at : (start now new : ShelfState) (out : List ℕ) (machine here last : State) (turns : List Turn)
     (i : ℕ) → i < length turns → RunGoesOn start now out machine here (take i turns) →
     run_turn here (get_or turns i no_turn).ticks (get_or turns i no_turn).steps ≡ Some last
-    → Appends now new out Log (event_text (idle_event (get_or turns i no_turn)))
+    → Appends now new out Log (record_text (idle_event (get_or turns i no_turn)))
     → WritesOnly out replay_outputs now new → NoWriteFailed now new →
     RunGoesOn start new out machine last (take (i + 1) turns)
 run_next_at start now new out machine here last turns i h so_far ran appended change writes =

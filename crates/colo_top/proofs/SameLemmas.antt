@@ -1,15 +1,15 @@
 -- A text is the schedule of one list of turns, and what is read is one list of bytes.
-use Rattle.std.proofs.Common.{◌≡◌, ℕ, ◌<◌, ◌^◌, List, [], ◌∷◌, ◌++◌, All, Option, Some, drop, decimal, refl, sym, ap, ◌∙◌, arith, nat_eq, Bool, IsTrue}
-use Rattle.std.proofs.lemmas.Fmt.{decimal_injective}
-use Rattle.std.proofs.lemmas.List.Elements.{All-head, All-tail}
+use Rattle.std.proofs.Common.{◌≡◌, ℕ, ◌<◌, zero, suc, Bool, List, [], ◌∷◌, Option, Some, map, length, get_or, drop, false, refl, sym, ap, ◌∙◌, IsTrue, arith}
+use Rattle.std.proofs.lemmas.List.{length-map}
 use Rattle.colo_base.specs.Shelf.{ShelfState}
 use Rattle.colo_top.specs.declared.schedule.Turn.{Turn}
-use Rattle.colo_top.specs.Schedule.{line_text, schedule_text, flag, IsGood, IsSchedule}
+use Rattle.replay_log.specs.declared.lines.Line.{Line}
+use Rattle.replay_log.specs.declared.lines.Line.TheVariants.{Primary}
+use Rattle.replay_log.proofs.LawLemmas.{one_schedule}
+use Rattle.colo_top.specs.Schedule.{line_of, IsTurnSchedule}
 use Rattle.colo_top.specs.Words.{ReplayWords}
 use Rattle.colo_top.specs.Files.{HasFile}
 use Rattle.colo_top.specs.Reading.{Texts, AreRead}
-use Rattle.colo_top.proofs.NumberLemmas.{number_first, rest_after, same_rest}
-use Rattle.colo_top.proofs.ScheduleLemmas.{from_ticks, from_receives, from_requests, from_steps, line_text_from_front, flag_small, flag_back, schedule_none, schedule_first}
 
 -- ---- the files that were read
 
@@ -38,65 +38,34 @@ same_texts shelf c a b seen p q =
 
 -- ---- schedules
 
--- a number and what follows the byte that ends it
-number_parts : (n m end : ℕ) (xs ys : List ℕ) → n < 2 ^ 64 → m < 2 ^ 64 → end < 48
-    → decimal n ++ (end ∷ xs) ≡ decimal m ++ (end ∷ ys) → (n ≡ m) × (xs ≡ ys)
-number_parts n m end xs ys small smaller low e =
-    let text = decimal n ++ (end ∷ xs) in
-    let first = sym (number_first text xs n end small low refl) ∙ number_first text ys m end smaller low e in
-    let rest = sym (rest_after text xs n end small low refl) ∙ rest_after text ys m end smaller low e in
-    (decimal_injective n m small smaller first, same_rest xs ys rest)
+turn_of : Line → Turn
+turn_of (Primary d i b n) = record { ticks = d; receives = i; requests = b; steps = n }
+turn_of _ = record { ticks = 0; receives = false; requests = 0; steps = 0 }
 
-flag_injective : (a b : Bool) → flag a ≡ flag b → a ≡ b
-flag_injective a b e = sym (flag_back a) ∙ (ap (λ n. nat_eq n 1) e ∙ flag_back b)
+same_turn : (t u : Turn) → line_of t ≡ line_of u → t ≡ u
+unfolding turn_of
+same_turn t u e = ap turn_of e
 
-turn_by_parts : (a b : ℕ) (c d : Bool) (e f g h : ℕ) → a ≡ b → c ≡ d → e ≡ f → g ≡ h →
-    (let x : Turn = record { ticks = a; receives = c; requests = e; steps = g } in let y : Turn = record {
-      ticks = b;
-      receives = d;
-      requests = f;
-      steps = h;
-    } in x ≡ y)
-turn_by_parts a b c d e f g h p q r s = rw (p, q, r, s) refl
+same_turns : (ts us : List Turn) → map line_of ts ≡ map line_of us → ts ≡ us
+same_turns [] [] e = refl
+same_turns [] (u ∷ us) e = let f : [] ≡ line_of u ∷ map line_of us = e in cc
+same_turns (t ∷ ts) [] e = let f : line_of t ∷ map line_of ts ≡ [] = e in cc
+same_turns (t ∷ ts) (u ∷ us) e =
+    ap (λ x. x ∷ ts) (same_turn t u (ap (λ ls. get_or ls 0 (line_of t)) e))
+    ∙ ap (λ xs. u ∷ xs) (same_turns ts us (ap (λ ls. drop 1 ls) e))
 
--- a line and what follows it
-line_parts : (t u : Turn) (xs ys : List ℕ) → IsGood t → IsGood u → line_text t ++ xs ≡ line_text u ++ ys
-    → (t ≡ u) × (xs ≡ ys)
-line_parts t u xs ys good fine e =
-    let fronts : 80 ∷ (32 ∷ from_ticks t xs) ≡ 80 ∷ (32 ∷ from_ticks u ys) = sym (line_text_from_front t xs) ∙ (e
-    ∙ line_text_from_front u ys) in
-    let a = number_parts t.ticks u.ticks 32 (from_receives t xs) (from_receives u ys) (omega (
-      arith,
-      good.ticks,
-    )) (omega (arith, fine.ticks)) (omega arith) (ap (λ text. drop 2 text) fronts) in
-    let b = number_parts (flag t.receives) (flag u.receives) 32 (from_requests t xs) (from_requests u ys) (omega
-    (arith, flag_small t.receives)) (omega (arith, flag_small u.receives)) (omega arith) a.1 in
-    let c = number_parts t.requests u.requests 32 (from_steps t xs) (from_steps u ys) (omega (
-      arith,
-      good.requests,
-    )) (omega (arith, fine.requests)) (omega arith) b.1 in
-    let d = number_parts t.steps u.steps 10 xs ys (omega (arith, good.steps)) (omega (
-      arith,
-      fine.steps,
-    )) (omega arith) c.1 in (
-      turn_by_parts t.ticks u.ticks t.receives u.receives t.requests u.requests t.steps u.steps a.0
-          (flag_injective t.receives u.receives b.0) c.0 d.0,
-      d.1,
-    )
+pub same_schedule : (text : List ℕ) (ts us : List Turn) → IsTurnSchedule ts text → IsTurnSchedule us text → ts ≡ us
+same_schedule text ts us p q = same_turns ts us (one_schedule text (map line_of ts) (map line_of us) p q)
 
-schedules : (ts us : List Turn) → All IsGood ts → All IsGood us → schedule_text ts ≡ schedule_text us → ts ≡ us
-schedules [] [] good fine e = refl
-schedules [] (u ∷ us) good fine e =
-    let f : [] ≡ 80 ∷ (32 ∷ from_ticks u (schedule_text us)) = sym schedule_none ∙ (e ∙ (schedule_first u us
-    ∙ line_text_from_front u (schedule_text us))) in cc
-schedules (t ∷ ts) [] good fine e =
-    let f : [] ≡ 80 ∷ (32 ∷ from_ticks t (schedule_text ts)) = sym schedule_none ∙ (sym e ∙ (schedule_first t ts
-    ∙ line_text_from_front t (schedule_text ts))) in cc
-schedules (t ∷ ts) (u ∷ us) good fine e =
-    let p = line_parts t u (schedule_text ts) (schedule_text us) (All-head IsGood t ts good)
-    (All-head IsGood u us fine) (sym (schedule_first t ts) ∙ (e ∙ schedule_first u us)) in
-    ap (λ x. x ∷ ts) p.0 ∙ ap (λ xs. u ∷ xs) (schedules ts us (All-tail IsGood t ts good)
-    (All-tail IsGood u us fine) p.1)
+-- ---- a line that is no turn's
 
-pub same_schedule : (text : List ℕ) (ts us : List Turn) → IsSchedule ts text → IsSchedule us text → ts ≡ us
-same_schedule text ts us p q = schedules ts us p.good q.good (sym p.spelled ∙ q.spelled)
+at_turn : (ts : List Turn) (k : ℕ) (z : Line) → k < length ts → (t : Turn) × (get_or (map line_of ts) k z ≡ line_of t)
+at_turn [] k z h = absurd (omega arith)
+at_turn (t ∷ ts) zero z h = (t, refl)
+at_turn (t ∷ ts) (suc k) z h = at_turn ts k z (omega arith)
+
+pub no_turn_there : (turns : List Turn) (lines : List Line) (k : ℕ) (z : Line) → map line_of turns ≡ lines
+    → k < length lines → ((d : ℕ) (i : Bool) (b n : ℕ) → get_or lines k z ≡ Primary d i b n → ⊥) → ⊥
+no_turn_there turns lines k z e h other =
+    let p = at_turn turns k z (omega (arith, ap length e, length-map turns line_of)) in
+    other p.0.ticks p.0.receives p.0.requests p.0.steps (sym (ap (λ ls. get_or ls k z) e) ∙ p.1)

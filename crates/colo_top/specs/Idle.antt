@@ -1,19 +1,15 @@
--- The events of turns that take no frame, release none and start no checkpoint.
+-- The records of turns that take no frame, release none and start no checkpoint.
 use Rattle.std.specs.Prelude.{ℕ, List, [], ◌++◌, codes, decimal, map, None}
+use Rattle.replay_log.specs.declared.records.Answer.TheVariants.{Made}
+use Rattle.replay_log.specs.declared.records.Record.{Record}
 use Rattle.colo_top.specs.declared.schedule.Turn.{Turn}
-use Rattle.colo_top.specs.Log.{Event, made}
+use Rattle.colo_top.specs.Schedule.{line_of}
 
-unfoldable pub idle_event : Turn → Event
-idle_event turn = record { turn = turn; answer = made None 0; marks = [] }
+unfoldable pub idle_event : Turn → Record
+idle_event turn = record { line = line_of turn; answer = Made None 0; marks = [] }
 
-unfoldable pub idle_events : List Turn → List Event
+unfoldable pub idle_events : List Turn → List Record
 idle_events turns = map idle_event turns
-
--- the line of such an event, from the numbers of its turn
-abbrev pub idle_words : ℕ → ℕ → ℕ → ℕ → List ℕ
-idle_words ticks receives requests steps =
-    codes "P " ++ (decimal ticks ++ (codes " " ++ (decimal receives ++ (codes " "
-    ++ (decimal requests ++ (codes " " ++ (decimal steps ++ codes " : - 0\n")))))))
 
 -- the line that a run of so many such events ends with
 abbrev pub summary_words : ℕ → List ℕ

@@ -4,7 +4,7 @@ use Rattle.colo_base.specs.Count.{Increased}
 use Rattle.colo_base.specs.Shelf.{ShelfState}
 use Rattle.colo_top.specs.declared.schedule.Turn.{Turn}
 use Rattle.colo_top.specs.Files.{HasFile}
-use Rattle.colo_top.specs.Schedule.{IsSchedule}
+use Rattle.colo_top.specs.Schedule.{IsTurnSchedule}
 use Rattle.colo_top.specs.Words.{ReplayWords}
 
 -- there is a file of this name, where contents can be observed
@@ -43,4 +43,4 @@ pub record IsDisk (bytes : List ℕ) : Type 0 where
 abbrev pub IsNotBuilt : Texts → Type 0
 IsNotBuilt texts =
     (IsDisk texts.disk → ⊥) ⊎ ((texts.client ≢ []) ⊎ ((turns : List Turn)
-    → IsSchedule turns texts.schedule → ⊥))
+    → IsTurnSchedule turns texts.schedule → ⊥))

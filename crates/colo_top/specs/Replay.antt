@@ -4,16 +4,17 @@ use Rattle.std.specs.Prelude.{◌≡◌, ◌≢◌, ℕ, List, [], ◌∷◌, �
 use Rattle.std.specs.Io.{StartsWith}
 use Rattle.colo_base.specs.Shelf.{ShelfState}
 use Rattle.elf_load.specs.Boot.{elf_case}
+use Rattle.replay_log.specs.declared.records.Record.{Record}
 use Rattle.colo_top.specs.declared.output.Output.TheVariants.{Log, Released, Wire, Ram, Disk}
 use Rattle.colo_top.specs.declared.schedule.Turn.{Turn}
 use Rattle.colo_top.specs.Boot.{boot_state, ram_size}
 use Rattle.colo_top.specs.Command.{replay_outputs}
 use Rattle.colo_top.specs.Files.{File, file, HasFile, HasFiles, KeepsOrEmpties}
-use Rattle.colo_top.specs.Log.{Event, IsLog, log_text, single_run, summary_text}
+use Rattle.colo_top.specs.Log.{IsLog, log_text, single_run, summary_text}
 use Rattle.colo_top.specs.Machine.{State}
 use Rattle.colo_top.specs.Reading.{Texts, AreRead, IsDisk, IsNotBuilt}
 use Rattle.colo_top.specs.Run.{run_from}
-use Rattle.colo_top.specs.Schedule.{IsSchedule}
+use Rattle.colo_top.specs.Schedule.{IsTurnSchedule}
 use Rattle.colo_top.specs.Words.{ReplayWords}
 
 -- ---- what is run
@@ -24,7 +25,7 @@ pub record IsReady (mib : ℕ) (texts : Texts) (turns : List Turn) (boot : State
   pub booted : boot_state mib texts.image texts.disk ≡ Some boot
   pub disk : IsDisk texts.disk
   pub client : texts.client ≡ []
-  pub schedule : IsSchedule turns texts.schedule
+  pub schedule : IsTurnSchedule turns texts.schedule
 
 -- what the files that are read make ready
 pub record Prepared (c : ReplayWords) (shelf : ShelfState) : Type 0 where
@@ -37,7 +38,7 @@ pub record Prepared (c : ReplayWords) (shelf : ShelfState) : Type 0 where
 -- these turns were run: the log whose schedule they are, and the last state of the single run that
 -- the log names
 pub record Progress (boot : State) (turns : List Turn) : Type 0 where
-  pub log : List Event
+  pub log : List Record
   pub logged : IsLog turns log
   pub last : State
   pub ran : run_from boot (single_run log) ≡ Some last

@@ -3,6 +3,7 @@ use Rattle.std.specs.Prelude.{◌≡◌, ◌≢◌, ℕ, List, [], Some, None, �
 use Rattle.std.specs.Io.{StartsWith}
 use Rattle.colo_base.specs.Shelf.{ShelfState}
 use Rattle.elf_load.specs.Boot.{elf_case}
+use Rattle.replay_log.specs.Texts.{record_text}
 use Rattle.colo_top.specs.declared.fault.Fault.{Fault}
 use Rattle.colo_top.specs.declared.fault.Fault.TheVariants.{Usage, Image, Read, Write, NoMemory, NotBuilt}
 use Rattle.colo_top.specs.declared.output.Output.TheVariants.{Log}
@@ -11,7 +12,6 @@ use Rattle.colo_top.specs.Boot.{ram_size}
 use Rattle.colo_top.specs.Command.{replay_outputs}
 use Rattle.colo_top.specs.Files.{AppendsPart, HasFiles, WriteFailed}
 use Rattle.colo_top.specs.Idle.{idle_event}
-use Rattle.colo_top.specs.Log.{event_text}
 use Rattle.colo_top.specs.Machine.{State, run_turn}
 use Rattle.colo_top.specs.Reading.{Texts, IsNotBuilt}
 use Rattle.colo_top.specs.Replay.{IsCutOff, RunCutOff, RunUnsupported, run_files}
@@ -40,7 +40,7 @@ pub record TurnCutOff (old new : ShelfState) (out : List ℕ) (machine : State)
     (turn : Turn) : Type 0 where
   pub last : State
   pub ran : run_turn machine turn.ticks turn.steps ≡ Some last
-  pub logged : AppendsPart old new out Log (event_text (idle_event turn))
+  pub logged : AppendsPart old new out Log (record_text (idle_event turn))
 
 -- how a turn fails
 abbrev pub TurnFails : ShelfState → ShelfState → List ℕ → State → Turn → Fault → Type 0

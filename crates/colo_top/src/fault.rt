@@ -4,7 +4,7 @@ ghost use Rattle.std.specs.Prelude.{◌≡◌, ◌≤◌};
 ghost use Rattle.colo_top.specs.Status.{HasLine, image_line, line, read_fault, status, turn_fault, write_fault};
 
 use crate::machine::TurnFault;
-use colo_base::ShelfFault;
+use colo_base::{NoMemory, ShelfFault};
 use std::alloc::AllocError;
 
 /// Why a command ends with another status than 0.
@@ -30,6 +30,16 @@ impl From<AllocError> for Fault {
     ghost from_gives = { λ _ fault. fault ≡ Fault.NoMemory };
 
     fn from(_: AllocError) -> Fault {
+        Fault::NoMemory
+    }
+}
+
+impl From<NoMemory> for Fault {
+    ghost use Rattle.colo_top.specs.declared.fault.Fault.{Fault};
+
+    ghost from_gives = { λ _ fault. fault ≡ Fault.NoMemory };
+
+    fn from(_: NoMemory) -> Fault {
         Fault::NoMemory
     }
 }

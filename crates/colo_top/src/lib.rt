@@ -9,7 +9,6 @@ mod fault;
 mod input;
 mod log;
 mod machine;
-mod number;
 mod output;
 mod prepare;
 mod ram;

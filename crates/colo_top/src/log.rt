@@ -1,45 +1,36 @@
-//! The text of a log.
+//! The text of a log, and the line that a run ends with.
 
-ghost use Rattle.std.specs.Prelude.{◌≡◌, List, IfOk, string_bytes};
-ghost use Rattle.colo_top.specs.Schedule.{flag as flag_number};
-ghost use Rattle.colo_top.specs.Log.{event_text, summary_text, IsLog};
-ghost use Rattle.colo_top.specs.Idle.{idle_event, idle_events, idle_words, summary_words};
+ghost use Rattle.std.specs.Prelude.{◌≡◌, IfOk, string_bytes};
+ghost use Rattle.replay_log.specs.Texts.{record_text};
+ghost use Rattle.colo_top.specs.Idle.{idle_event, idle_events, summary_words};
+ghost use Rattle.colo_top.specs.Log.{summary_text};
 
 use crate::schedule::Turn;
+use colo_base::NoMemory;
+use replay_log::{Answer, Line, Marks, Record, write_record};
 use std::alloc::{AllocError, Global};
 
-/// 0 or 1.
-fn flag_of(flag: bool) -> u8
-    ensures { result ≡ flag_number flag }
-{
-    if flag { 1 } else { 0 }
-}
-
-/// A line of a turn with the answer of one that took no frame and released none.
-fn idle_line(
-    alloc: Global,
-    ticks: u32,
-    receives: u8,
-    requests: u32,
-    steps: u32,
-) -> Result<String, AllocError>
-    ensures { IfOk result (λ text. string_bytes text ≡ idle_words ticks receives requests steps) }
-{
-    format!(in alloc; "P {ticks} {receives} {requests} {steps} : - 0\n")
-}
-
 /// The log's text of a turn that took no frame and released none.
-#[tactic(auto, using(crate::proofs::LogLemmas::idle_spelled))]
-pub fn idle_text(alloc: Global, turn: &Turn) -> Result<String, AllocError>
-    ensures { IfOk result (λ text. string_bytes text ≡ event_text (idle_event turn.now)) }
+#[tactic(auto, unfolding(crate::specs::Idle::idle_event))]
+pub fn idle_text(alloc: Global, turn: &Turn) -> Result<Vec<u8>, NoMemory>
+    ensures { IfOk result (λ text. text.items ≡ record_text (idle_event turn.now)) }
 {
-    idle_line(
-        alloc,
-        turn.ticks,
-        flag_of(turn.receives),
-        turn.requests,
-        turn.steps,
-    )
+    let record = Record {
+        line: Line::Primary {
+            d: turn.ticks,
+            i: turn.receives,
+            b: turn.requests,
+            n: turn.steps,
+        },
+        answer: Answer::Made {
+            frame: None,
+            released: 0,
+        },
+        marks: Marks::new(alloc),
+    };
+    let mut text = Vec::new(alloc);
+    write_record(&record, &mut text)?;
+    Ok(text)
 }
 
 /// The line that a run of so many events ends with, where no frame was released and no checkpoint

@@ -2,10 +2,11 @@
 
 ghost use Rattle.std.specs.Prelude.{◌≡◌, [], Some, IfOk, IfErr, OnOk, OnErr, IsErrOf, string_bytes};
 ghost use Rattle.colo_base.specs.Shelf.{NoWriteFailed};
+ghost use Rattle.replay_log.specs.Texts.{record_text};
 ghost use Rattle.colo_top.specs.Command.{replay_of, replay_outputs};
 ghost use Rattle.colo_top.specs.Files.{HasFiles, Appends, WriteFailed, WritesOnly};
 ghost use Rattle.colo_top.specs.Idle.{idle_event, idle_events};
-ghost use Rattle.colo_top.specs.Log.{event_text, log_text};
+ghost use Rattle.colo_top.specs.Log.{log_text};
 ghost use Rattle.colo_top.specs.Machine.{run_turn};
 ghost use Rattle.colo_top.specs.Outcome.{Completes, FailsBy};
 ghost use Rattle.colo_top.specs.Replay.{RunDone, run_files};
@@ -39,7 +40,7 @@ fn run_turn<S: Shelf>(
     ensures ran { OnOk result (run_turn machine.old turn.now.ticks turn.now.steps
         ≡ Some machine.new) }
     ensures logged { OnOk result (Appends (S.state shelf.old)
-        (S.state shelf.new) out.now Output.Log (event_text (idle_event turn.now))) }
+        (S.state shelf.new) out.now Output.Log (record_text (idle_event turn.now))) }
     ensures change { WritesOnly out.now replay_outputs (S.state shelf.old) (S.state shelf.new) }
     ensures counts { OnOk result (NoWriteFailed (S.state shelf.old) (S.state shelf.new)) }
     ensures fails { IfErr result (TurnFails (S.state shelf.old)
@@ -51,7 +52,7 @@ fn run_turn<S: Shelf>(
     let Ok(text) = idle_text(alloc, turn) else {
         return Err(Fault::NoMemory);
     };
-    match append_to(alloc, shelf, out, Output::Log, text.as_bytes()) {
+    match append_to(alloc, shelf, out, Output::Log, &text) {
         Ok(()) => Ok(()),
         Err(fault) => Err(write_fault(fault)),
     }
