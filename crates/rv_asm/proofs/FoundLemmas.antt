@@ -1,5 +1,37 @@
 -- What is read of a statement is what the grammar says.
-use Rattle.std.proofs.Common.{◌≡◌, ℕ, ◌%◌, ◌^◌, ◌-◌, ◌<◌, Bool, true, false, cond, ℤ, List, [], ◌∷◌, ◌++◌, length, Option, Some, None, Result, Ok, Err, MatchOption, eqb, refl, sym, ap, subst, ◌∙◌, inl, inr}
+use Rattle.std.proofs.Common.{
+  ◌≡◌,
+  ℕ,
+  ◌%◌,
+  ◌^◌,
+  ◌-◌,
+  ◌<◌,
+  Bool,
+  true,
+  false,
+  cond,
+  ℤ,
+  List,
+  [],
+  ◌∷◌,
+  ◌++◌,
+  length,
+  Option,
+  Some,
+  None,
+  Result,
+  Ok,
+  Err,
+  MatchOption,
+  eqb,
+  refl,
+  sym,
+  ap,
+  subst,
+  ◌∙◌,
+  inl,
+  inr,
+}
 use Rattle.std.specs.Prelude.{codes}
 use Rattle.std.specs.Bool.{OnTrue}
 use Rattle.std.specs.Str.{bytes_eq}
@@ -16,7 +48,21 @@ use Rattle.rv_forms.specs.declared.kinds.Operands.{Operands}
 use Rattle.rv_forms.specs.declared.kinds.Kind.{Kind}
 use Rattle.rv_forms.specs.declared.kinds.Kind.TheVariants as kinds
 use Rattle.rv_forms.specs.declared.kinds.Syntax.{Syntax}
-use Rattle.rv_forms.specs.declared.kinds.Syntax.TheVariants.{UType, JType, IType, ShiftType, LoadType, SType, BType, RType, CsrType, CsrNumberType, Exact, LrType, AmoType}
+use Rattle.rv_forms.specs.declared.kinds.Syntax.TheVariants.{
+  UType,
+  JType,
+  IType,
+  ShiftType,
+  LoadType,
+  SType,
+  BType,
+  RType,
+  CsrType,
+  CsrNumberType,
+  Exact,
+  LrType,
+  AmoType,
+}
 use Rattle.rv_forms.specs.Forms.{kinds_of, is_ordered, operands_of, word_of}
 use Rattle.rv_forms.specs.Mnemonics.{Mnemonic}
 use Rattle.rv_forms.specs.Names.{Name, name_text, name_of}
@@ -27,11 +73,56 @@ use Rattle.rv_asm.specs.declared.fault.Why.{Why}
 use Rattle.rv_asm.specs.declared.fault.Why.TheVariants.{Word, Range}
 use Rattle.rv_asm.specs.declared.reading.Number.{Number}
 use Rattle.rv_asm.specs.Faults.{◌>>=◌}
-use Rattle.rv_asm.specs.Grammar.{IsSignedText, IsUnsignedText, IsTargetText, IsWordText, IsValueText, IsBracketText, IsAddressText, IsOperandText, AreOperandTexts, IsStatementText, IsInstruction, IsData, IsLoad, IsStatement}
-use Rattle.rv_asm.specs.Operands.{register_or, register, value, word, even, near, place_or, named_place, distance, address, in_memory, number_or, label_target, target, label_value, signed_number, unsigned_number, bracketed, closed, base_register, address_parts, word_number, word_value, operand, after_comma, next_operand, finish, operands}
+use Rattle.rv_asm.specs.Grammar.{
+  IsSignedText,
+  IsUnsignedText,
+  IsTargetText,
+  IsWordText,
+  IsValueText,
+  IsBracketText,
+  IsAddressText,
+  IsOperandText,
+  AreOperandTexts,
+  IsStatementText,
+  IsInstruction,
+  IsData,
+  IsLoad,
+  IsStatement,
+}
+use Rattle.rv_asm.specs.Operands.{
+  register_or,
+  register,
+  value,
+  word,
+  even,
+  near,
+  place_or,
+  named_place,
+  distance,
+  address,
+  in_memory,
+  number_or,
+  label_target,
+  target,
+  label_value,
+  signed_number,
+  unsigned_number,
+  bracketed,
+  closed,
+  base_register,
+  address_parts,
+  word_number,
+  word_value,
+  operand,
+  after_comma,
+  next_operand,
+  finish,
+  operands,
+}
 use Rattle.rv_asm.specs.Reading.{number_within, register_of, is_label}
+use Rattle.rv_asm.specs.Refusals.{GoesOn}
 use Rattle.rv_asm.specs.Statements.{blank, load_words, data_words, li_words, instruction_words, statement}
-use Rattle.rv_asm.proofs.RangeLemmas.{register_range, row_texts_in_range}
+use Rattle.rv_asm.proofs.RangeLemmas.{done, guard_ok, register_range, row_texts_in_range}
 
 -- ---- steps that did not fail
 
@@ -40,18 +131,11 @@ bind_ok : {A B : Type 0} (r : Result A Why) (f : A → Result B Why) (y : B) →
 bind_ok (Ok x) f y e = (x, refl, e)
 bind_ok (Err why) f y e = absurd cc
 
-abbrev pub done : {A : Type 0} → A → Result A Why
-done x = Ok x
-
-abbrev failed : {A : Type 0} → Why → Result A Why
+abbrev pub failed : {A : Type 0} → Why → Result A Why
 failed why = Err why
 
 ok_is : {A : Type 0} (x y : A) → done x ≡ done y → x ≡ y
 ok_is x y e = cc
-
-guard_ok : {A : Type 0} (b : Bool) (why : Why) (x y : A) → cond b (Ok x) (Err why) ≡ Ok y → (b ≡ true) × (x ≡ y)
-guard_ok true why x y e = (refl, cc)
-guard_ok false why x y e = absurd cc
 
 -- ---- a text that was cut
 
@@ -69,7 +153,7 @@ register_or_ok : (o : Option ℕ) (text : List ℕ) (r : ℕ) → register_or o 
 register_or_ok None text r e = absurd cc
 register_or_ok (Some x) text r e = cc
 
-register_found : (text : List ℕ) (r : ℕ) → register text ≡ Ok r → register_of text ≡ Some r
+pub register_found : (text : List ℕ) (r : ℕ) → register text ≡ Ok r → register_of text ≡ Some r
 unfolding register
 register_found text r e = register_or_ok (register_of text) text r e
 
@@ -80,23 +164,20 @@ number_cases (Ok n) f other x P first second e = first n refl e
 number_cases (Err TooLarge) f other x P first second e = absurd cc
 number_cases (Err NoNumber) f other x P first second e = second refl e
 
-word_fails : {X : Type 0} (x : X) (P : Type 0) → failed Word ≡ Ok x → P
-word_fails x P e = absurd cc
-
-signed_found : (text : List ℕ) (z : ℤ) → signed_number text ≡ Ok z → IsSignedText text z
+pub signed_found : (text : List ℕ) (z : ℤ) → signed_number text ≡ Ok z → IsSignedText text z
 unfolding signed_number
 signed_found text z e =
     number_cases (number_within 2048 2047 text) (λ n. Ok (value n)) (Err Word) z (IsSignedText text z) (λ n is h. (
       n,
       is,
       ok_is (value n) z h,
-    )) (λ is h. word_fails z (IsSignedText text z) h) e
+    )) (λ is h. absurd cc) e
 
 unsigned_found : (high : ℕ) (text : List ℕ) (m : ℕ) → unsigned_number high text ≡ Ok m → IsUnsignedText high text m
 unfolding unsigned_number
 unsigned_found high text m e =
     number_cases (number_within 0 high text) (λ n. Ok n.magnitude) (Err Word) m (IsUnsignedText high text m)
-    (λ n is h. (n, is, ok_is n.magnitude m h)) (λ is h. word_fails m (IsUnsignedText high text m) h) e
+    (λ n is h. (n, is, ok_is n.magnitude m h)) (λ is h. absurd cc) e
 
 place_found : (b : Bool) (o : Option ℕ) (p : ℕ) → cond b (place_or o) (Err Word) ≡ Ok p → (b ≡ true) × (o ≡ Some p)
 place_found true None p e = absurd cc
@@ -123,7 +204,7 @@ word_found : (text : List ℕ) (m : ℕ) → word_number text ≡ Ok m → IsWor
 unfolding word_number
 word_found text m e =
     number_cases (number_within (2 ^ 31) (2 ^ 32 - 1) text) (λ n. Ok (word n)) (Err Word) m (IsWordText text m)
-    (λ n is h. (n, is, ok_is (word n) m h)) (λ is h. word_fails m (IsWordText text m) h) e
+    (λ n is h. (n, is, ok_is (word n) m h)) (λ is h. absurd cc) e
 
 value_found : (places : List ℕ → Option ℕ) (text : List ℕ) (m : ℕ) → word_value places text ≡ Ok m →
     IsValueText places text m
@@ -192,66 +273,73 @@ address_found text p e =
 
 -- ---- operands
 
+-- the values with that of an operand taken over
+abbrev pub taken : Kind → Operands → Operands → Operands
+taken kinds.Rd f g = record g { rd = f.rd }
+taken kinds.Rs1 f g = record g { rs1 = f.rs1 }
+taken kinds.Rs2 f g = record g { rs2 = f.rs2 }
+taken kinds.Immediate f g = record g { imm = f.imm }
+taken kinds.Shift f g = record g { rs2 = f.rs2 }
+taken kinds.Small f g = record g { rs1 = f.rs1 }
+taken kinds.Csr f g = record g { wide = f.wide }
+taken kinds.Upper f g = record g { wide = f.wide }
+taken kinds.Branch f g = record g { imm = f.imm }
+taken kinds.Jump f g = record g { imm = f.imm }
+taken kinds.Address f g = record g { imm = f.imm; rs1 = f.rs1 }
+taken kinds.Base f g = record g { rs1 = f.rs1 }
+taken kinds.Word f g = record g { wide = f.wide }
+taken kinds.Value f g = record g { wide = f.wide }
+
 -- what an operand of this kind with this text leads to
 abbrev StepText : (List ℕ → Option ℕ) → ℕ → Kind → List ℕ → Operands → (Operands → Type 0) → Type 0
-StepText places here kinds.Rd text f P = (r : ℕ) → register_of text ≡ Some r → P (record f { rd = r })
-StepText places here kinds.Rs1 text f P = (r : ℕ) → register_of text ≡ Some r → P (record f { rs1 = r })
-StepText places here kinds.Rs2 text f P = (r : ℕ) → register_of text ≡ Some r → P (record f { rs2 = r })
-StepText places here kinds.Immediate text f P = (z : ℤ) → IsSignedText text z → P (record f { imm = z })
-StepText places here kinds.Shift text f P = (n : ℕ) → IsUnsignedText 31 text n → P (record f { rs2 = n })
-StepText places here kinds.Small text f P = (n : ℕ) → IsUnsignedText 31 text n → P (record f { rs1 = n })
-StepText places here kinds.Csr text f P = (n : ℕ) → IsUnsignedText 4095 text n → P (record f { wide = n })
-StepText places here kinds.Upper text f P = (n : ℕ) → IsUnsignedText 0xFFFFF text n → P (record f { wide = n })
-StepText places here kinds.Branch text f P = (z : ℤ) → IsTargetText places here 4096 4094 text z →
-    P (record f { imm = z })
-StepText places here kinds.Jump text f P = (z : ℤ) → IsTargetText places here 1048576 1048574 text z →
-    P (record f { imm = z })
-StepText places here kinds.Address text f P = (p : ℤ × ℕ) → IsAddressText text p.0 p.1 →
-    P (record f { imm = p.0; rs1 = p.1 })
-StepText places here kinds.Base text f P = (r : ℕ) → IsBracketText text r → P (record f { rs1 = r })
-StepText places here kinds.Word text f P = (m : ℕ) → IsWordText text m → P (record f { wide = m })
-StepText places here kinds.Value text f P = (m : ℕ) → IsValueText places text m → P (record f { wide = m })
+StepText places here kind text f P = (h : Operands) → IsOperandText places here kind text h → P (taken kind h f)
 
 step_by : {A : Type 0} (r : Result A Why) (with_it : A → Operands) (g : Operands) (P : Operands → Type 0) (In : A →
-    Type 0) → ((x : A) → r ≡ Ok x → In x) → ((x : A) → In x → P (with_it x)) → (r >>= λ x. Ok (with_it x)) ≡ Ok g →
-    P g
+    Type 0) → ((x : A) → r ≡ Ok x → In x) → ((x : A) → In x → P (with_it x)) → (r >>= λ x. Ok (with_it x)) ≡ Ok g → P g
 step_by r with_it g P In found step e =
     let b = bind_ok r (λ x. Ok (with_it x)) g e in
     subst P (ok_is (with_it b.0) g b.2) (step b.0 (found b.0 b.1))
 
-operand_found : (places : List ℕ → Option ℕ) (here : ℕ) (kind : Kind) (text : List ℕ) (f g : Operands)
+pub operand_found : (places : List ℕ → Option ℕ) (here : ℕ) (kind : Kind) (text : List ℕ) (f g : Operands)
     (P : Operands → Type 0) → operand places here kind text f ≡ Ok g → StepText places here kind text f P → P g
 unfolding operand
 operand_found places here kinds.Rd text f g P e step = step_by (register text) (λ r. record f { rd = r }) g P
-    (λ r. register_of text ≡ Some r) (register_found text) step e
+    (λ r. register_of text ≡ Some r) (register_found text) (λ r h. step (record f { rd = r }) h) e
 operand_found places here kinds.Rs1 text f g P e step = step_by (register text) (λ r. record f { rs1 = r }) g P
-    (λ r. register_of text ≡ Some r) (register_found text) step e
+    (λ r. register_of text ≡ Some r) (register_found text) (λ r h. step (record f { rs1 = r }) h) e
 operand_found places here kinds.Rs2 text f g P e step = step_by (register text) (λ r. record f { rs2 = r }) g P
-    (λ r. register_of text ≡ Some r) (register_found text) step e
+    (λ r. register_of text ≡ Some r) (register_found text) (λ r h. step (record f { rs2 = r }) h) e
 operand_found places here kinds.Immediate text f g P e step = step_by (signed_number text)
-    (λ z. record f { imm = z }) g P (λ z. IsSignedText text z) (signed_found text) step e
+    (λ z. record f { imm = z }) g P (λ z. IsSignedText text z) (signed_found text) (λ z h. step
+    (record f { imm = z }) h) e
 operand_found places here kinds.Shift text f g P e step = step_by (unsigned_number 31 text)
-    (λ n. record f { rs2 = n }) g P (λ n. IsUnsignedText 31 text n) (unsigned_found 31 text) step e
+    (λ n. record f { rs2 = n }) g P (λ n. IsUnsignedText 31 text n) (unsigned_found 31 text) (λ n h. step
+    (record f { rs2 = n }) h) e
 operand_found places here kinds.Small text f g P e step = step_by (unsigned_number 31 text)
-    (λ n. record f { rs1 = n }) g P (λ n. IsUnsignedText 31 text n) (unsigned_found 31 text) step e
+    (λ n. record f { rs1 = n }) g P (λ n. IsUnsignedText 31 text n) (unsigned_found 31 text) (λ n h. step
+    (record f { rs1 = n }) h) e
 operand_found places here kinds.Csr text f g P e step = step_by (unsigned_number 4095 text)
-    (λ n. record f { wide = n }) g P (λ n. IsUnsignedText 4095 text n) (unsigned_found 4095 text) step e
+    (λ n. record f { wide = n }) g P (λ n. IsUnsignedText 4095 text n) (unsigned_found 4095 text) (λ n h. step
+    (record f { wide = n }) h) e
 operand_found places here kinds.Upper text f g P e step = step_by (unsigned_number 0xFFFFF text)
-    (λ n. record f { wide = n }) g P (λ n. IsUnsignedText 0xFFFFF text n) (unsigned_found 0xFFFFF text) step e
+    (λ n. record f { wide = n }) g P (λ n. IsUnsignedText 0xFFFFF text n) (unsigned_found 0xFFFFF text) (λ n h. step
+    (record f { wide = n }) h) e
 operand_found places here kinds.Branch text f g P e step = step_by (target places here 4096 4094 text)
     (λ z. record f { imm = z }) g P (λ z. IsTargetText places here 4096 4094 text z)
-    (target_found places here 4096 4094 text) step e
+    (target_found places here 4096 4094 text) (λ z h. step (record f { imm = z }) h) e
 operand_found places here kinds.Jump text f g P e step = step_by (target places here 1048576 1048574 text)
     (λ z. record f { imm = z }) g P (λ z. IsTargetText places here 1048576 1048574 text z)
-    (target_found places here 1048576 1048574 text) step e
+    (target_found places here 1048576 1048574 text) (λ z h. step (record f { imm = z }) h) e
 operand_found places here kinds.Address text f g P e step = step_by (address_parts text)
-    (λ p. record f { imm = p.0; rs1 = p.1 }) g P (λ p. IsAddressText text p.0 p.1) (address_found text) step e
-operand_found places here kinds.Base text f g P e step = step_by (base_register text)
-    (λ r. record f { rs1 = r }) g P (λ r. IsBracketText text r) (base_found text) step e
-operand_found places here kinds.Word text f g P e step = step_by (word_number text)
-    (λ n. record f { wide = n }) g P (λ m. IsWordText text m) (word_found text) step e
+    (λ p. record f { imm = p.0; rs1 = p.1 }) g P (λ p. IsAddressText text p.0 p.1) (address_found text) (λ p h. step
+    (record f { imm = p.0; rs1 = p.1 }) h) e
+operand_found places here kinds.Base text f g P e step = step_by (base_register text) (λ r. record f { rs1 = r }) g P
+    (λ r. IsBracketText text r) (base_found text) (λ r h. step (record f { rs1 = r }) h) e
+operand_found places here kinds.Word text f g P e step = step_by (word_number text) (λ n. record f { wide = n }) g P
+    (λ m. IsWordText text m) (word_found text) (λ n h. step (record f { wide = n }) h) e
 operand_found places here kinds.Value text f g P e step = step_by (word_value places text)
-    (λ n. record f { wide = n }) g P (λ m. IsValueText places text m) (value_found places text) step e
+    (λ n. record f { wide = n }) g P (λ m. IsValueText places text m) (value_found places text) (λ n h. step
+    (record f { wide = n }) h) e
 
 abbrev AfterTexts : (List ℕ → Option ℕ) → ℕ → Kind → List Kind → List ℕ → Operands → (Operands → Type 0) → Type 0
 AfterTexts places here kind [] text f P = StepText places here kind text f P
@@ -259,27 +347,15 @@ AfterTexts places here kind (next ∷ more) text f P =
     (first rest : List ℕ) → text ≡ first ++ comma ∷ space ∷ rest →
     StepText places here kind first f (λ g. AfterTexts places here next more rest g P)
 
-no_space : (b : Bool) (cs : List ℕ) → cond b (done (Some cs)) (Err Word) ≡ Ok None → ⊥
-no_space true cs e = cc
-no_space false cs e = cc
-
-space_by : (b : Bool) (c : ℕ) (cs more : List ℕ) → eqb c space ≡ b →
-    cond b (done (Some cs)) (Err Word) ≡ Ok (Some more) → Some (c ∷ cs) ≡ Some (space ∷ more)
-space_by true c cs more t e =
-    let is : c ≡ space = eqb-true c space t in
-    let same : cs ≡ more = cc in
-    rw (is, same) refl
-space_by false c cs more t e = absurd cc
-
-comma_none : (rest : Option (List ℕ)) → after_comma rest ≡ Ok None → rest ≡ None
-comma_none None e = refl
-comma_none (Some []) e = absurd cc
-comma_none (Some (c ∷ cs)) e = absurd (no_space (eqb c space) cs e)
-
-comma_some : (rest : Option (List ℕ)) (more : List ℕ) → after_comma rest ≡ Ok (Some more) → rest ≡ Some (space ∷ more)
-comma_some None more e = absurd cc
-comma_some (Some []) more e = absurd cc
-comma_some (Some (c ∷ cs)) more e = space_by (eqb c space) c cs more refl e
+pub comma_goes : (after rest : Option (List ℕ)) → after_comma after ≡ Ok rest → GoesOn after rest
+comma_goes None None e = refl
+comma_goes None (Some rest) e = absurd cc
+comma_goes (Some []) rest e = absurd cc
+comma_goes (Some (c ∷ cs)) rest e = by (eqb c space) refl e
+  where
+    by : (b : Bool) → eqb c space ≡ b → cond b (done (Some cs)) (Err Word) ≡ Ok rest → GoesOn (Some (c ∷ cs)) rest
+    by true is h = subst (GoesOn (Some (c ∷ cs))) (ok_is (Some cs) rest h) (rw (eqb-true c space is) refl)
+    by false is h = absurd cc
 
 finish_found : (rest : Option (List ℕ)) (f g : Operands) → finish rest f ≡ Ok g → (rest ≡ None) × (f ≡ g)
 finish_found None f g e = (refl, ok_is f g e)
@@ -314,7 +390,7 @@ operands_found places here kind [] text f g P e after =
     let a = bind_ok (next_operand places here kind (Some text) f) (λ next. finish next.1 next.0) g e in
     let n = next_found places here kind text f a.0 a.1 in
     let d = finish_found a.0.1 a.0.0 g a.2 in
-    let whole = cut_whole comma text (comma_none (cut comma text).after (n.1
+    let whole = cut_whole comma text (comma_goes (cut comma text).after None (n.1
     ∙ ap (λ (o : Option (List ℕ)). done o) d.0)) in
     subst P d.1 (operand_found places here kind text f a.0.0 P (ap (λ
     (t : List ℕ). operand places here kind t f) whole ∙ n.0) after)
@@ -323,7 +399,7 @@ operands_found places here kind (next ∷ more) text f g P e after =
     (next ∷ more) later.1 later.0) g e in
     let n = next_found places here kind text f a.0 a.1 in
     let r = some_rest places here next more a.0.1 a.0.0 g a.2 in
-    let parts = cut_in comma text (space ∷ r.0) (comma_some (cut comma text).after r.0 (n.1
+    let parts = cut_in comma text (space ∷ r.0) (comma_goes (cut comma text).after (Some r.0) (n.1
     ∙ ap (λ (o : Option (List ℕ)). done o) r.1)) in
     let here_after : AfterTexts places here next more r.0 a.0.0 P = operand_found places here kind
     (cut comma text).before f a.0.0 (λ h. AfterTexts places here next more r.0 h P) n.0 (after
@@ -479,8 +555,15 @@ row_texts places here name text CsrType f = λ rest e first more parts a ha seco
   refl,
   refl,
 )
-row_texts places here name text CsrNumberType f = λ rest e first more parts a ha second last others b hb d hd.
-    ((rest, e, (first, more, parts, ha, (second, last, others, hb, hd))), refl, refl)
+row_texts places here name text CsrNumberType f = λ rest e first more parts a ha second last others b hb d hd. (
+  (
+    rest,
+    e,
+    (first, more, parts, ha, (second, last, others, hb, hd)),
+  ),
+  refl,
+  refl,
+)
 row_texts places here name text AmoType f = λ rest e first more parts a ha second last others b hb d hd. (
   (
     rest,
@@ -510,7 +593,7 @@ load_by : (places : List ℕ → Option ℕ) (here : ℕ) (text : List ℕ) (f g
     operands places here (kinds.Rd ∷ kinds.Value ∷ []) (cut space text).after f ≡ Ok g → g.rd < 32
 load_by places here text f g e =
     kinds_found places here (cut space text).before text (kinds.Rd ∷ kinds.Value ∷ []) f g (λ h. h.rd < 32) refl e
-    (λ rest parts first more comma r hr n hn. register_range first r hr)
+    (λ rest parts first more comma r hr n hn. register_range first r.rd hr)
 
 pub load_in_range : (places : List ℕ → Option ℕ) (here : ℕ) (rest : Option (List ℕ)) (f g : Operands) →
     operands places here (kinds.Rd ∷ kinds.Value ∷ []) rest f ≡ Ok g → g.rd < 32
@@ -518,8 +601,8 @@ load_in_range places here None f g e = load_by places here [] f g e
 load_in_range places here (Some rest) f g e = load_by places here (space ∷ rest) f g e
 
 -- the same operands have the same texts
-same_text : (places : List ℕ → Option ℕ) (here : ℕ) (kind : Kind) (text : List ℕ) (f g : Operands) →
-    IsSame kind f g → IsOperandText places here kind text f → IsOperandText places here kind text g
+same_text : (places : List ℕ → Option ℕ) (here : ℕ) (kind : Kind) (text : List ℕ) (f g : Operands) → IsSame kind f g →
+    IsOperandText places here kind text f → IsOperandText places here kind text g
 same_text places here kinds.Rd text f g e h = subst (λ (r : ℕ). register_of text ≡ Some r) e h
 same_text places here kinds.Rs1 text f g e h = subst (λ (r : ℕ). register_of text ≡ Some r) e h
 same_text places here kinds.Rs2 text f g e h = subst (λ (r : ℕ). register_of text ≡ Some r) e h
@@ -547,11 +630,7 @@ same_statement : (places : List ℕ → Option ℕ) (here : ℕ) (name : List �
     (f g : Operands) → AreSame kinds f g → IsStatementText places here name kinds text f →
     IsStatementText places here name kinds text g
 same_statement places here name [] text f g e h = h
-same_statement places here name (kind ∷ more) text f g e h = (
-  h.0,
-  h.1,
-  same_texts places here kind more h.0 f g e h.2,
-)
+same_statement places here name (kind ∷ more) text f g e h = (h.0, h.1, same_texts places here kind more h.0 f g e h.2)
 
 -- the name with the order bits of the word
 same_name : (b : Bool) (m : Mnemonic) (p q r s : Bool) → is_ordered m.syntax ≡ b → OnTrue b ((p ≡ r) × (q ≡ s)) →
@@ -570,17 +649,15 @@ instruction_found places here text (Some n) words is e =
     let a = bind_ok (operands places here (kinds_of m.syntax) (cut space text).after (blank n.aq n.rl)) (λ f. Ok
     (word_of m.syntax m.value f ∷ [])) words e in
     let f : Operands = a.0 in
-    let read : Read places here name (kinds_of m.syntax) text
-    (blank n.aq n.rl) f = kinds_found places here name text (kinds_of m.syntax) (blank n.aq n.rl) f
-    (λ g. Read places here name (kinds_of m.syntax) text (blank n.aq n.rl) g) named.written a.1
-    (row_texts places here name text m.syntax (blank n.aq n.rl)) in
+    let read : Read places here name (kinds_of m.syntax) text (blank n.aq n.rl) f = kinds_found places here name text
+    (kinds_of m.syntax) (blank n.aq n.rl) f (λ g. Read places here name (kinds_of m.syntax) text
+    (blank n.aq n.rl) g) named.written a.1 (row_texts places here name text m.syntax (blank n.aq n.rl)) in
     let w : ℕ = word_of m.syntax m.value f in
     let keeps : Keeps m.syntax m.value f = word_keeps m.syntax m.value f (row_is_fixed m named.row)
     (row_texts_in_range places here name (kinds_of m.syntax) text f read.0) in
     let bits : OnTrue (is_ordered m.syntax) ((n.aq ≡ aq w) × (n.rl
     ≡ rl w)) = order_bits (is_ordered m.syntax) f.aq f.rl n.aq n.rl (aq w) (rl w) read.1 read.2 keeps.order in
-    let same : name ≡ name_text m (aq w) (rl w) = same_name (is_ordered m.syntax) m n.aq n.rl (aq w)
-    (rl w) refl bits in
+    let same : name ≡ name_text m (aq w) (rl w) = same_name (is_ordered m.syntax) m n.aq n.rl (aq w) (rl w) refl bits in
     record {
       mnemonic = m;
       word = w;
@@ -598,9 +675,8 @@ instruction_found places here text (Some n) words is e =
     order_bits true p q r s t u e g h = (sym e ∙ h.0, sym g ∙ h.1)
     order_bits false p q r s t u e g h = tt
 
-data_found : (places : List ℕ → Option ℕ) (here : ℕ) (text words : List ℕ) →
-    (cut space text).before ≡ codes ".word" → data_words places here (cut space text).after ≡ Ok words →
-    IsData places here text words
+data_found : (places : List ℕ → Option ℕ) (here : ℕ) (text words : List ℕ) → (cut space text).before ≡ codes ".word" →
+    data_words places here (cut space text).after ≡ Ok words → IsData places here text words
 data_found places here text words is e =
     let a = bind_ok (operands places here (kinds.Word ∷ []) (cut space text).after (blank false false)) (λ f. Ok
     (f.wide ∷ [])) words e in

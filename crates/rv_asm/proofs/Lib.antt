@@ -6,4 +6,5 @@ pub mod LoadLemmas
 pub mod OnlyLemmas
 pub mod ProgramLemmas
 pub mod RangeLemmas
+pub mod RefusalLemmas
 pub mod TextLemmas

@@ -1,5 +1,31 @@
 -- What the grammar says is read.
-use Rattle.std.proofs.Common.{◌≡◌, ℕ, ◌%◌, ◌^◌, ◌<◌, Bool, true, false, ℤ, List, [], ◌∷◌, ◌++◌, Option, Some, None, Ok, bit_and, subst, refl, sym, ap, ◌∙◌, inl, inr}
+use Rattle.std.proofs.Common.{
+  ◌≡◌,
+  ℕ,
+  ◌%◌,
+  ◌^◌,
+  ◌<◌,
+  Bool,
+  true,
+  false,
+  ℤ,
+  List,
+  [],
+  ◌∷◌,
+  ◌++◌,
+  Option,
+  Some,
+  None,
+  Ok,
+  bit_and,
+  subst,
+  refl,
+  sym,
+  ap,
+  ◌∙◌,
+  inl,
+  inr,
+}
 use Rattle.std.specs.Prelude.{codes, Contains}
 use Rattle.std.specs.Bool.{OnTrue, OnFalse}
 use Rattle.std.specs.Char.{is_ascii_alphanumeric}
@@ -14,35 +40,72 @@ use Rattle.rv_forms.specs.declared.kinds.Operands.{Operands}
 use Rattle.rv_forms.specs.declared.kinds.Kind.{Kind}
 use Rattle.rv_forms.specs.declared.kinds.Kind.TheVariants as kinds
 use Rattle.rv_forms.specs.declared.kinds.Syntax.{Syntax}
-use Rattle.rv_forms.specs.declared.kinds.Syntax.TheVariants.{UType, JType, IType, ShiftType, LoadType, SType, BType, RType, CsrType, CsrNumberType, Exact, LrType, AmoType}
+use Rattle.rv_forms.specs.declared.kinds.Syntax.TheVariants.{
+  UType,
+  JType,
+  IType,
+  ShiftType,
+  LoadType,
+  SType,
+  BType,
+  RType,
+  CsrType,
+  CsrNumberType,
+  Exact,
+  LrType,
+  AmoType,
+}
 use Rattle.rv_forms.specs.Forms.{kinds_of, mask_of, is_ordered, operands_of, word_of}
 use Rattle.rv_forms.specs.Mnemonics.{Mnemonic, mnemonics}
 use Rattle.rv_forms.specs.Names.{Name, name_text, named, name_of}
 use Rattle.rv_forms.proofs.NameLemmas.{is_name_byte, name_again, name_bytes}
 use Rattle.rv_forms.proofs.WordLemmas.{word_back}
-use Rattle.rv_asm.specs.Grammar.{IsSignedText, IsUnsignedText, IsTargetText, IsWordText, IsValueText, IsBracketText, IsAddressText, IsOperandText, AreOperandTexts, IsStatementText, IsInstruction, IsData, IsLoad, IsStatement}
-use Rattle.rv_asm.specs.Operands.{register, signed_number, unsigned_number, target, label_target, word_number, word_value, label_value, bracketed, base_register, address_by, address_parts, operand, next_operand, operands}
+use Rattle.rv_asm.specs.Grammar.{
+  IsSignedText,
+  IsUnsignedText,
+  IsTargetText,
+  IsWordText,
+  IsValueText,
+  IsBracketText,
+  IsAddressText,
+  IsOperandText,
+  AreOperandTexts,
+  IsStatementText,
+  IsInstruction,
+  IsData,
+  IsLoad,
+  IsStatement,
+}
+use Rattle.rv_asm.specs.Operands.{
+  register,
+  signed_number,
+  unsigned_number,
+  target,
+  label_target,
+  word_number,
+  word_value,
+  label_value,
+  bracketed,
+  base_register,
+  address_by,
+  address_parts,
+  operand,
+  next_operand,
+  operands,
+}
 use Rattle.rv_asm.specs.Reading.{register_of}
 use Rattle.rv_asm.specs.Statements.{blank, statement}
-use Rattle.rv_asm.proofs.ByteLemmas.{cut_whole, cut_before, is_number_byte, is_operand_byte, number_bytes, register_bytes, operand_bytes}
-use Rattle.rv_asm.proofs.FoundLemmas.{done}
-
--- the values with those of operands taken over
-abbrev taken : Kind → Operands → Operands → Operands
-taken kinds.Rd f g = record g { rd = f.rd }
-taken kinds.Rs1 f g = record g { rs1 = f.rs1 }
-taken kinds.Rs2 f g = record g { rs2 = f.rs2 }
-taken kinds.Immediate f g = record g { imm = f.imm }
-taken kinds.Shift f g = record g { rs2 = f.rs2 }
-taken kinds.Small f g = record g { rs1 = f.rs1 }
-taken kinds.Csr f g = record g { wide = f.wide }
-taken kinds.Upper f g = record g { wide = f.wide }
-taken kinds.Branch f g = record g { imm = f.imm }
-taken kinds.Jump f g = record g { imm = f.imm }
-taken kinds.Address f g = record g { imm = f.imm; rs1 = f.rs1 }
-taken kinds.Base f g = record g { rs1 = f.rs1 }
-taken kinds.Word f g = record g { wide = f.wide }
-taken kinds.Value f g = record g { wide = f.wide }
+use Rattle.rv_asm.proofs.ByteLemmas.{
+  cut_whole,
+  cut_before,
+  is_number_byte,
+  is_operand_byte,
+  number_bytes,
+  register_bytes,
+  operand_bytes,
+}
+use Rattle.rv_asm.proofs.FoundLemmas.{taken}
+use Rattle.rv_asm.proofs.RangeLemmas.{done}
 
 abbrev all_taken : List Kind → Operands → Operands → Operands
 all_taken [] f g = g
@@ -50,11 +113,11 @@ all_taken (kind ∷ more) f g = all_taken more f (taken kind f g)
 
 -- ---- operands
 
-register_only : (text : List ℕ) (r : ℕ) → register_of text ≡ Some r → register text ≡ Ok r
+pub register_only : (text : List ℕ) (r : ℕ) → register_of text ≡ Some r → register text ≡ Ok r
 unfolding register
 register_only text r e = rw e refl
 
-signed_only : (text : List ℕ) (z : ℤ) → IsSignedText text z → signed_number text ≡ Ok z
+pub signed_only : (text : List ℕ) (z : ℤ) → IsSignedText text z → signed_number text ≡ Ok z
 unfolding signed_number
 signed_only text z h = rw h.1 (ap (λ (x : ℤ). Ok x) h.2)
 
@@ -106,7 +169,7 @@ address_only text z r h =
     ap (λ (x : List ℕ). address_by (cut left_parenthesis x)) whole ∙ (ap (λ (q : Halves). address_by q) parts
     ∙ rw (signed_only h.0 z h.3, bracketed_only h.4.0 r h.4.2) refl)
 
-operand_only : (places : List ℕ → Option ℕ) (here : ℕ) (kind : Kind) (text : List ℕ) (f g : Operands) →
+pub operand_only : (places : List ℕ → Option ℕ) (here : ℕ) (kind : Kind) (text : List ℕ) (f g : Operands) →
     IsOperandText places here kind text f → operand places here kind text g ≡ Ok (taken kind f g)
 unfolding operand
 operand_only places here kinds.Rd text f g h = rw (register_only text f.rd h) refl
@@ -244,10 +307,7 @@ instruction_only places here text words h = by (is_ordered h.mnemonic.syntax) re
     by true e =
         with_name places here text h.mnemonic h.word (aq h.word) (rl h.word) h.row h.below fits (subst (λ
         (b : Bool). OnFalse b (bits (aq h.word) (rl h.word) false false)) (sym e) tt) (subst (λ
-        (b : Bool). OnTrue b (bits (aq h.word) (rl h.word) (aq h.word) (rl h.word))) (sym e) (
-          refl,
-          refl,
-        )) h.written
+        (b : Bool). OnTrue b (bits (aq h.word) (rl h.word) (aq h.word) (rl h.word))) (sym e) (refl, refl)) h.written
         ∙ ap (λ (ws : List ℕ). done ws) (sym h.only)
     by false e =
         let name : name_text h.mnemonic (aq h.word) (rl h.word) ≡ name_text h.mnemonic false false = rw e refl in

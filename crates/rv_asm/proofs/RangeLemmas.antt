@@ -22,10 +22,10 @@ use Rattle.rv_asm.specs.Grammar.{IsSignedText, IsUnsignedText, IsTargetText, IsW
 use Rattle.rv_asm.specs.Operands.{value, distance, address}
 use Rattle.rv_asm.specs.Reading.{with_sign, number_within, register_of}
 
-abbrev done : {A : Type 0} → A → Result A Why
+abbrev pub done : {A : Type 0} → A → Result A Why
 done x = Ok x
 
-guard_ok : {A : Type 0} (b : Bool) (why : Why) (x y : A) → cond b (Ok x) (Err why) ≡ done y → (b ≡ true) × (x ≡ y)
+pub guard_ok : {A : Type 0} (b : Bool) (why : Why) (x y : A) → cond b (Ok x) (Err why) ≡ done y → (b ≡ true) × (x ≡ y)
 guard_ok true why x y e = (refl, cc)
 guard_ok false why x y e = absurd cc
 
@@ -77,13 +77,10 @@ register_range text n e =
 bound_by : (most v n : ℕ) → within most v ≡ Ok n → n ≤ most
 bound_by most v n e =
     elim (cases_lt most v) [
-      | inl large ↦ let h = rw (lt-leb v most large) at e in absurd (no_number h)
+      | inl large ↦ let h = rw (lt-leb v most large) at e in absurd cc
       | inr small ↦ omega (arith, small, given (leb v most) v n e)
     ]
   where
-    no_number : {n : ℕ} → large_result ≡ Ok n → ⊥
-    no_number h = cc
-
     given : (b : Bool) (v n : ℕ) → cond b (Ok v) large_result ≡ Ok n → v ≡ n
     given true v n e = cc
     given false v n e = absurd cc

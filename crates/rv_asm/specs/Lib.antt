@@ -3,6 +3,7 @@ pub mod Reading
 pub mod Operands
 pub mod Statements
 pub mod Grammar
+pub mod Refusals
 pub mod Labels
 pub mod Lines
 pub mod Program

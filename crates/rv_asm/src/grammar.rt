@@ -1,10 +1,12 @@
-//! The grammar of a statement, how it is read, and what `li` loads.
+//! The grammar of a statement, how it is read, what is refused, and what `li` loads.
 
-ghost use Rattle.std.specs.Prelude.{◌≡◌, ℕ, ◌<◌, ◌^◌, ◌*◌, ◌+◌, ◌%◌, List, Option, Ok, Some};
+ghost use Rattle.std.specs.Prelude.{◌≡◌, ◌↔◌, ℕ, ◌<◌, ◌^◌, ◌*◌, ◌+◌, ◌%◌, List, Option, Ok, Err, Some};
 ghost use Rattle.rv_isa.specs.Table.{decode};
 ghost use Rattle.rv_isa.specs.Words.{unsigned, word_of};
 ghost use Rattle.rv_isa.specs.declared.instr.Instr.TheVariants.{Lui, Addi};
+ghost use Rattle.rv_asm.specs.declared.fault.Why.{Why};
 ghost use Rattle.rv_asm.specs.Grammar.{IsStatement};
+ghost use Rattle.rv_asm.specs.Refusals.{Stops};
 ghost use Rattle.rv_asm.specs.Statements.{statement, upper_part, lower_part};
 
 /// A text stands by the grammar for exactly the words that reading it from left to right gives.
@@ -13,6 +15,18 @@ pub fn grammar_is_read()
         → statement places here text ≡ Ok words → IsStatement places here text words }
     ensures only { (places : List ℕ → Option ℕ) (here : ℕ) (text words : List ℕ)
         → IsStatement places here text words → statement places here text ≡ Ok words }
+{}
+
+/// A text is refused exactly where it stands for no words, and for the fault of its earliest bad
+/// place: a word of a label's form that is no register (`Register`), a number or distance out of its
+/// bounds or an odd distance (`Range`), a label without a place (`Label`), or no such statement or
+/// operand (`Word`).
+pub fn refusals_are_at_their_place()
+    ensures without_words { (places : List ℕ → Option ℕ) (here : ℕ) (text : List ℕ)
+        → ((why : Why) × (statement places here text ≡ Err why))
+        ↔ ((words : List ℕ) → ¬ IsStatement places here text words) }
+    ensures first { (places : List ℕ → Option ℕ) (here : ℕ) (text : List ℕ) (why : Why)
+        → (statement places here text ≡ Err why) ↔ Stops places here text why }
 {}
 
 /// The words of `li` are LUI and ADDI to the register, and what LUI puts there and the
