@@ -101,6 +101,7 @@ impl Net {
         ensures chain { chain.new ≡ chain_of (next_of (port_of self.old ram.now) k) }
         ensures card { let port = port_of self.old ram.now in
             self.new ≡ (take_chain port k (next_of port k)).card }
+        ensures kind { self.new.device.kind ≡ self.old.device.kind }
         ensures parts { IsTrue (parts_inside (length ram.now.bytes) chain.new.parts) }
     {
         let answer = match self.regs.queue(k) {
@@ -118,7 +119,10 @@ impl Net {
     pub(crate) fn give_back(&mut self, k: u32, ram: &mut Ram, head: u32, len: u32)
         requires queue { IsTrue (works_on self.old.device k) }
         requires ring { IsTrue (ring_inside (length ram.old.bytes) (queue_of self.old.device k)) }
-        ensures { port_of self.new ram.new ≡ return_chain (port_of self.old ram.old) k head len }
+        ensures port { port_of self.new ram.new
+            ≡ return_chain (port_of self.old ram.old) k head len }
+        ensures kind { self.new.device.kind ≡ self.old.device.kind }
+        ensures size { length ram.new.bytes ≡ length ram.old.bytes }
     {
         let asked = match self.regs.queue(k) {
             Some(queue) => queue.push_used(ram, head, len),

@@ -44,6 +44,8 @@ impl Net {
         ensures answer { result ≡ received (deliver (port_of self.old ram.old) frame.now).fault }
         ensures port { port_of self.new ram.new
             ≡ meet_neighbour (deliver (port_of self.old ram.old) frame.now) frame.now }
+        ensures kind { self.new.device.kind ≡ self.old.device.kind }
+        ensures size { length ram.new.bytes ≡ length ram.old.bytes }
     {
         match self.deliver(ram, frame) {
             Ok(()) => {
@@ -61,6 +63,8 @@ impl Net {
         ensures answer { result ≡ fault_of (deliver (port_of self.old ram.old) frame.now).fault }
         ensures port { port_of self.new ram.new
             ≡ (deliver (port_of self.old ram.old) frame.now).port }
+        ensures kind { self.new.device.kind ≡ self.old.device.kind }
+        ensures size { length ram.new.bytes ≡ length ram.old.bytes }
     {
         let mut chain = Chain::new();
         if self.take(0, ram, &mut chain)? {

@@ -29,7 +29,7 @@ impl Net {
     ///
     /// `Idle` comes exactly where the card doesn't work on the queue or no chain is available,
     /// `Broken` with the first fault of the rings, and else `Done`. After `NoMemory` nothing is
-    /// said but that `out` begins with what it held.
+    /// said but that `out` begins with what it held, and that memory has its size.
     pub fn sent(&mut self, ram: &mut Ram, out: &mut Frames) -> Result<Served, NoMemory>
         ensures answer { IfOk result (λ answer. answer ≡ (send (port_of self.old ram.old)).answer) }
         ensures port { OnOk result
@@ -37,6 +37,8 @@ impl Net {
         ensures frames { OnOk result
             (out.new ≡ out.old ++ (send (port_of self.old ram.old)).frames) }
         ensures begins { OnErr result (Begins out.old out.new) }
+        ensures kind { self.new.device.kind ≡ self.old.device.kind }
+        ensures size { length ram.new.bytes ≡ length ram.old.bytes }
     {
         if !self.works_on(1) {
             return Ok(Served::Idle);
@@ -63,6 +65,8 @@ impl Net {
         ensures frames { OnOk result
             (out.new ≡ out.old ++ (send_chain (port_of self.old ram.old)).frames) }
         ensures err { OnErr result (out.new ≡ out.old) }
+        ensures kind { self.new.device.kind ≡ self.old.device.kind }
+        ensures size { length ram.new.bytes ≡ length ram.old.bytes }
     {
         let mut chain = Chain::new();
         match self.take(1, ram, &mut chain) {
@@ -86,6 +90,8 @@ impl Net {
             result ≡ fault_of (answer_request (port_of self.old ram.old) ask).fault }
         ensures port { let ask = request_in (option_copied frame.entry) in
             port_of self.new ram.new ≡ (answer_request (port_of self.old ram.old) ask).port }
+        ensures kind { self.new.device.kind ≡ self.old.device.kind }
+        ensures size { length ram.new.bytes ≡ length ram.old.bytes }
     {
         let Some(frame) = frame else {
             return Ok(());

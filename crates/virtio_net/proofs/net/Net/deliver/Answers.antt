@@ -60,4 +60,4 @@ returns-then-branch-clause-port c =
     (c.fill-len.ensures.memory ∙ ap (λ x. fill_chain c.args.ram.now x c.args.frame.now) chain)
     (c.head.ensures ∙ ap (λ (x : DescriptorChain). x.head) chain)
     (c.fill-len.ensures.len ∙ ap (λ x. filled_len x c.args.frame.now) chain) in
-    c.give_back.ensures ∙ sym (ap (λ (x : Delivery). x.port) is)
+    c.give_back.ensures.port ∙ sym (ap (λ (x : Delivery). x.port) is)

@@ -75,7 +75,7 @@ returns-in-Ok-clause-answer c =
     let is = send_frame_is port _ c.take.new.self c.head.result frame some card
     (c.head.ensures ∙ ap (λ (x : DescriptorChain). x.head) chain) (c.frame_in-frame.ensures
     ∙ ap (frame_in c.args.ram.now.bytes) chain)
-    ∙ ap (λ p. sending_of p frame) (sym c.give_back.ensures) in
+    ∙ ap (λ p. sending_of p frame) (sym c.give_back.ensures.port) in
     sym (ap (λ (x : Sending). x.answer) is ∙ served_ok _ (sym c.in-Ok.ensures.answer))
 
 pub returns-in-Ok-clause-port : goal.returns-in-Ok-clause-port
@@ -90,7 +90,7 @@ returns-in-Ok-clause-port c =
     let is = send_frame_is port _ c.take.new.self c.head.result frame some card
     (c.head.ensures ∙ ap (λ (x : DescriptorChain). x.head) chain) (c.frame_in-frame.ensures
     ∙ ap (frame_in c.args.ram.now.bytes) chain)
-    ∙ ap (λ p. sending_of p frame) (sym c.give_back.ensures) in
+    ∙ ap (λ p. sending_of p frame) (sym c.give_back.ensures.port) in
     c.answer_request.ensures.port ∙ sym (ap (λ (x : Sending). x.port) is)
 
 pub returns-in-Ok-clause-frames : goal.returns-in-Ok-clause-frames
@@ -105,7 +105,7 @@ returns-in-Ok-clause-frames c =
     let is = send_frame_is port _ c.take.new.self c.head.result frame some card
     (c.head.ensures ∙ ap (λ (x : DescriptorChain). x.head) chain) (c.frame_in-frame.ensures
     ∙ ap (frame_in c.args.ram.now.bytes) chain)
-    ∙ ap (λ p. sending_of p frame) (sym c.give_back.ensures) in
+    ∙ ap (λ p. sending_of p frame) (sym c.give_back.ensures.port) in
     c.in_ok-push_output.ensures.ok ∙ sym (ap (λ (x : Sending). c.args.out.now ++ x.frames) is)
 
 pub returns-in-Err-answer_request-clause-answer : goal.returns-in-Err-answer_request-clause-answer
@@ -120,7 +120,7 @@ returns-in-Err-answer_request-clause-answer c =
     let is = send_frame_is port _ c.take.new.self c.head.result frame some card
     (c.head.ensures ∙ ap (λ (x : DescriptorChain). x.head) chain) (c.frame_in-frame.ensures
     ∙ ap (frame_in c.args.ram.now.bytes) chain)
-    ∙ ap (λ p. sending_of p frame) (sym c.give_back.ensures) in
+    ∙ ap (λ p. sending_of p frame) (sym c.give_back.ensures.port) in
     sym (ap (λ (x : Sending). x.answer) is
     ∙ served_err _ c.in-Err-answer_request.fault (sym c.in-Err-answer_request.ensures.answer))
 
@@ -136,7 +136,7 @@ returns-in-Err-answer_request-clause-port c =
     let is = send_frame_is port _ c.take.new.self c.head.result frame some card
     (c.head.ensures ∙ ap (λ (x : DescriptorChain). x.head) chain) (c.frame_in-frame.ensures
     ∙ ap (frame_in c.args.ram.now.bytes) chain)
-    ∙ ap (λ p. sending_of p frame) (sym c.give_back.ensures) in
+    ∙ ap (λ p. sending_of p frame) (sym c.give_back.ensures.port) in
     c.answer_request.ensures.port ∙ sym (ap (λ (x : Sending). x.port) is)
 
 pub returns-in-Err-answer_request-clause-frames : goal.returns-in-Err-answer_request-clause-frames
@@ -151,5 +151,5 @@ returns-in-Err-answer_request-clause-frames c =
     let is = send_frame_is port _ c.take.new.self c.head.result frame some card
     (c.head.ensures ∙ ap (λ (x : DescriptorChain). x.head) chain) (c.frame_in-frame.ensures
     ∙ ap (frame_in c.args.ram.now.bytes) chain)
-    ∙ ap (λ p. sending_of p frame) (sym c.give_back.ensures) in
+    ∙ ap (λ p. sending_of p frame) (sym c.give_back.ensures.port) in
     c.in_ok-push_output.ensures.ok ∙ sym (ap (λ (x : Sending). c.args.out.now ++ x.frames) is)

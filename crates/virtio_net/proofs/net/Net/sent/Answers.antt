@@ -33,6 +33,8 @@ loop-init c =
       ap (λ (f : DeviceFields). (slice_index_or f.queues 1 no_queue).num) c.fields.ensures.value
           ∙ ap (λ (x : Card). x.device.second.num) c.self.view_is,
       sends_begin start _ c.args.out.now works,
+      refl,
+      refl,
     )
 
 pub send_chain-requires : goal.send_chain-requires
@@ -147,6 +149,8 @@ loop-preserved c =
           (port_of c.send_chain.new.self c.send_chain.new.ram) c.send_chain.new.out c.loop.invariant.1 lt
           (sym c.in_ok-send_chain.ensures.answer
           ∙ c.in-Done.is) c.in_ok-send_chain.ensures.port c.in_ok-send_chain.ensures.frames,
+      c.send_chain.ensures.kind ∙ c.loop.invariant.2,
+      c.send_chain.ensures.size ∙ c.loop.invariant.3,
     )
 
 pub returns-clause-answer : goal.returns-clause-answer
