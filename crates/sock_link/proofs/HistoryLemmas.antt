@@ -1,47 +1,12 @@
 -- Whole streams through an unframer.
-use Rattle.std.proofs.Common.{
-  ◌≡◌,
-  ℕ,
-  ◌+◌,
-  ◌≤◌,
-  true,
-  false,
-  Bool,
-  List,
-  [],
-  ◌∷◌,
-  ◌++◌,
-  length,
-  take,
-  refl,
-  sym,
-  ◌∙◌,
-  ap,
-  subst,
-  arith,
-  length-append,
-  append_assoc,
-}
+use Rattle.std.proofs.Common.{◌≡◌, ℕ, ◌+◌, ◌≤◌, true, false, Bool, List, [], ◌∷◌, ◌++◌, length, take, refl, sym, ◌∙◌, ap, subst, arith, length-append, append_assoc}
 use Rattle.std.specs.Prelude.{All}
 use Rattle.std.specs.List.{concat}
 use Rattle.std.proofs.lemmas.List.{append-nil, take-append-le}
 use Rattle.std.proofs.lemmas.List.Elements.{All-append, All-nil}
 use Rattle.sock_link.specs.Stream.{limit, record_of, stream_of, length_of, is_too_long, kept_part, IsSplit}
 use Rattle.sock_link.specs.Unframed.{Unframed, Feeds, Stands}
-use Rattle.sock_link.specs.Laws.{
-  none,
-  one_more,
-  KeepsStream,
-  BeginsStream,
-  GivesNext,
-  TellsTooLong,
-  TellsBoundary,
-  StaysStuck,
-  StreamStaysStuck,
-  IsReadOnce,
-  ReadsBack,
-  AddsRecord,
-}
+use Rattle.sock_link.specs.Laws.{none, one_more, KeepsStream, BeginsStream, GivesNext, TellsTooLong, TellsBoundary, StaysStuck, StreamStaysStuck, IsReadOnce, ReadsBack, AddsRecord}
 use Rattle.sock_link.proofs.StreamLemmas.{stream_of-append, split_once}
 use Rattle.sock_link.proofs.HoldingLemmas.{too_long, is_long, length_of-append, kept_long, kept_short, four_kept}
 

@@ -1,32 +1,5 @@
 -- What an unframer holds.
-use Rattle.std.proofs.Common.{
-  ◌≡◌,
-  ℕ,
-  zero,
-  suc,
-  ◌+◌,
-  ◌-◌,
-  ◌<◌,
-  ◌≤◌,
-  Bool,
-  true,
-  false,
-  List,
-  [],
-  ◌∷◌,
-  ◌++◌,
-  length,
-  take,
-  drop,
-  refl,
-  sym,
-  ◌∙◌,
-  ap,
-  subst,
-  arith,
-  length-append,
-  append_assoc,
-}
+use Rattle.std.proofs.Common.{◌≡◌, ℕ, zero, suc, ◌+◌, ◌-◌, ◌<◌, ◌≤◌, Bool, true, false, List, [], ◌∷◌, ◌++◌, length, take, drop, refl, sym, ◌∙◌, ap, subst, arith, length-append, append_assoc}
 use Rattle.std.specs.Prelude.{All}
 use Rattle.std.proofs.Math.Nat.{add-zero}
 use Rattle.std.proofs.Math.Seq.{drop-append_seam, take-append-add}
@@ -35,28 +8,11 @@ use Rattle.std.proofs.lemmas.List.Elements.{All-same, All-append, All-nil, All-t
 use Rattle.std.proofs.lemmas.Bool.Decides.{nat_tests}
 use Rattle.std.proofs.lemmas.Grind.{common_steps}
 use Rattle.std.specs.Int.{from_be_bytes, w32}
-use Rattle.sock_link.specs.Stream.{
-  limit,
-  record_of,
-  stream_of,
-  length_of,
-  is_too_long,
-  kept_part,
-  frames_in,
-  IsUnfinished,
-  IsSplit,
-}
+use Rattle.sock_link.specs.Stream.{limit, record_of, stream_of, length_of, is_too_long, kept_part, frames_in, IsUnfinished, IsSplit}
 use Rattle.sock_link.specs.Holding.{unframed_of, IsHeld}
 use Rattle.sock_link.specs.declared.unframer.Unframer.TheInside.{Inside}
 use Rattle.sock_link.specs.Unframed.{Unframed, Feeds}
-use Rattle.sock_link.proofs.StreamLemmas.{
-  frames_in-stream_of,
-  stream_of-append,
-  length-frames_in,
-  length-record_of,
-  drop-record_of,
-  no_record,
-}
+use Rattle.sock_link.proofs.StreamLemmas.{frames_in-stream_of, stream_of-append, length-frames_in, length-record_of, drop-record_of, no_record}
 use Rattle.sock_link.proofs.RecordLemmas.{IsWhole, frame_at, length-frame_at}
 
 -- what is held: these whole frames, and of the unfinished record this part
@@ -206,17 +162,37 @@ pub record Takes (u new : Inside) (piece : List ℕ) (long : Bool) : Type 0 wher
   pub feeds : Feeds (unframed_of u) (unframed_of new) piece
   pub stuck : is_too_long (drop new.whole new.backlog) ≡ long
 
+-- a piece is taken, where this part of its rest is held
+takes_by : (u : Inside) (piece bytes part : List ℕ) (count size : ℕ) (long : Bool) →
+    Reads (added_part u piece) count size → Parts u piece count size →
+    HoldsFrames (after_piece u piece bytes count size) (waiting_frames u piece count) part →
+    part ≡ kept_part (drop size (added_part u piece)) → is_too_long part ≡ long →
+    Takes u (after_piece u piece bytes count size) piece long
+takes_by u piece bytes part count size long s p h kept states =
+    let now = held_from (after_piece u piece bytes count size) (waiting_frames u piece count) part h in
+    record {
+      held = now.2;
+      feeds = record {
+        frames = frames_in count (added_part u piece);
+        rest = drop size (added_part u piece);
+        split = p.split;
+        waiting = now.0;
+        part = now.1 ∙ kept;
+        place = ap (λ k. u.place + k) s.size_is;
+        fed = refl;
+      };
+      stuck = ap is_too_long now.1 ∙ states;
+    }
+
 -- a piece after which no length above the limit has come
 takes_all : (u : Inside) (piece : List ℕ) (count size : ℕ) → IsHeld u → Reads (added_part u piece) count size →
     is_too_long (drop size (added_part u piece)) ≡ false →
     Takes u (after_piece u piece (u.backlog ++ piece) count size) piece false
 takes_all u piece count size h s short =
-    let q : List ℕ = added_part u piece in
-    let rest : List ℕ = drop size q in
+    let rest : List ℕ = drop size (added_part u piece) in
     let p = parts u piece count size h s in
     let keeps : kept_part rest ≡ rest = kept_short rest short in
-    let now = held_from (after_piece u piece (u.backlog ++ piece) count size) (waiting_frames u piece count) rest
-    (record {
+    takes_by u piece (u.backlog ++ piece) rest count size false s p (record {
       join = p.all;
       allowed = p.allowed;
       unfinished = s.split.unfinished;
@@ -224,28 +200,14 @@ takes_all u piece count size h s short =
       whole_is = p.whole_is;
       count_is = p.count_is;
       place_is = p.place_is;
-    }) in
-    record {
-      held = now.2;
-      feeds = record {
-        frames = frames_in count q;
-        rest = rest;
-        split = p.split;
-        waiting = now.0;
-        part = now.1 ∙ sym keeps;
-        place = ap (λ k. u.place + k) s.size_is;
-        fed = refl;
-      };
-      stuck = ap is_too_long now.1 ∙ short;
-    }
+    }) (sym keeps) short
 
 -- a piece with a length above the limit
 takes_long : (u : Inside) (piece : List ℕ) (count size : ℕ) → IsHeld u → Reads (added_part u piece) count size →
     is_too_long (drop size (added_part u piece)) ≡ true →
     Takes u (after_piece u piece (take (u.whole + size + 4) (u.backlog ++ piece)) count size) piece true
 takes_long u piece count size h s long =
-    let q : List ℕ = added_part u piece in
-    let rest : List ℕ = drop size q in
+    let rest : List ℕ = drop size (added_part u piece) in
     let hs : List (List ℕ) = waiting_frames u piece count in
     let p = parts u piece count size h s in
     let four = four_kept rest long in
@@ -254,8 +216,7 @@ takes_long u piece count size h s long =
     ap (λ k. take (k + 4) (u.backlog ++ piece)) p.whole_is
     ∙ ap (take (length (stream_of hs) + 4)) p.all
     ∙ take-append-add (stream_of hs) rest 4 in
-    let now = held_from (after_piece u piece (take (u.whole + size + 4) (u.backlog
-    ++ piece)) count size) hs (take 4 rest) (record {
+    takes_by u piece (take (u.whole + size + 4) (u.backlog ++ piece)) (take 4 rest) count size true s p (record {
       join = cut;
       allowed = p.allowed;
       unfinished = four.2;
@@ -263,20 +224,7 @@ takes_long u piece count size h s long =
       whole_is = p.whole_is;
       count_is = p.count_is;
       place_is = omega (arith, p.place_is, four.0, states.0);
-    }) in
-    record {
-      held = now.2;
-      feeds = record {
-        frames = frames_in count q;
-        rest = rest;
-        split = p.split;
-        waiting = now.0;
-        part = now.1 ∙ sym (kept_long rest long);
-        place = ap (λ k. u.place + k) s.size_is;
-        fed = refl;
-      };
-      stuck = ap is_too_long now.1 ∙ four.1;
-    }
+    }) (sym (kept_long rest long)) four.1
 
 -- the same of bytes that are known to be those
 pub added_all : (u : Inside) (added q r piece : List ℕ) (count size : ℕ) → IsHeld u → added ≡ u.backlog ++ piece →
