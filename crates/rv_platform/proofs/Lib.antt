@@ -1,0 +1,4 @@
+pub mod BoardLemmas
+pub mod ExecuteLemmas
+pub mod KindLemmas
+pub mod StepLemmas

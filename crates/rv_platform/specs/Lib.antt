@@ -1,0 +1,7 @@
+pub mod Bus
+pub mod BusLaws
+pub mod Clint
+pub mod Devices
+pub mod Settled
+pub mod Step
+pub mod Values
