@@ -122,7 +122,7 @@ write_short m p parts xs ys inside short =
     ∙ (ap (λ (x : List ℕ). write_joined (with_part m p.addr x) parts (drop p.len (xs ++ ys))) front
     ∙ ap (λ (x : List ℕ). write_joined (with_part m p.addr (xs ++ take (p.len - length xs) ys)) parts x) back)))))
 
--- a write after another, behind it, is one write of both
+-- a write and then another at its end are one write of both
 pub write_append : (m : Memory) (parts : List Part) (xs ys : List ℕ) → parts_inside (length m.bytes) parts ≡ true
     → length xs ≤ total_len parts
     → write_joined (write_joined m parts xs) (skip (length xs) parts) ys ≡ write_joined m parts (xs ++ ys)

@@ -177,7 +177,7 @@ fn serve_out<D: Disk>(chain: &Chain, sector: u64, ram: &mut Ram, disk: &mut D) -
     write_status_alone(chain, STATUS_OK, ram)
 }
 
-/// Writes so many sectors from the request behind its header.
+/// Writes so many sectors from the request's bytes after its header.
 
 fn write_sectors<D: Disk>(chain: &Chain, sector: u32, count: u32, ram: &Ram, disk: &mut D)
     requires inside { IsTrue (parts_inside (length ram.now.bytes) chain.now.parts) }

@@ -97,9 +97,9 @@ fn sector_read(rt: HostRuntime) -> Result<(), Fail> {
     Ok(())
 }
 
-/// IN behind the last sector: status 1, nothing else is written, and the length is 0.
+/// IN past the last sector: status 1, nothing else is written, and the length is 0.
 #[test]
-fn sector_behind_the_disk(rt: HostRuntime) -> Result<(), Fail> {
+fn sector_past_the_disk(rt: HostRuntime) -> Result<(), Fail> {
     let mut ram = Ram::new(rt.alloc(), 1)?;
     let mut disk = OneSector { bytes: [0x41; 512] };
     let mut blk = running();
@@ -112,7 +112,7 @@ fn sector_behind_the_disk(rt: HostRuntime) -> Result<(), Fail> {
     Ok(())
 }
 
-/// OUT from a header with 4 bytes behind it and a part of 508 bytes; then the same chain as FLUSH,
+/// OUT from a header with 4 bytes after it and a part of 508 bytes; then the same chain as FLUSH,
 /// and with a type of no meaning.
 #[test]
 fn sector_written_from_two_parts(rt: HostRuntime) -> Result<(), Fail> {
