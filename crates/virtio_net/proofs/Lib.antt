@@ -1,3 +1,3 @@
-pub mod NotifyLaw
+pub mod NotifyLemmas
 pub mod PortLemmas
 pub mod SendLemmas

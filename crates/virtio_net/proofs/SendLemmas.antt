@@ -1,5 +1,5 @@
 -- What one chain sends by its parts, and the chains of one notify.
-use Rattle.std.proofs.Common.{◌≡◌, ℕ, ◌+◌, ◌-◌, ◌<◌, ◌≤◌, Bool, true, false, Option, Some, None, Result, Ok, Err, List, [], ◌++◌, refl, ap, sym, ◌∙◌, append-nil, append_assoc, arith, add-one, ⊎_elim}
+use Rattle.std.proofs.Common.{◌≡◌, ℕ, ◌+◌, ◌-◌, ◌<◌, ◌≤◌, Bool, true, false, Option, Some, None, Result, Ok, Err, List, [], ◌++◌, refl, ap, sym, ◌∙◌, append-nil, append_assoc, arith, add-one, subst, ⊎_elim}
 use Rattle.std.proofs.lemmas.Bool.{cases_Bool}
 use Rattle.std.specs.Prelude.{if◌then◌else◌}
 use Rattle.inet_frame.specs.Arp.{reply_bytes}
@@ -8,38 +8,63 @@ use Rattle.virt_queue.specs.Ring.{with_used, asks_interrupt, after_position}
 use Rattle.virtio_mmio.specs.Lending.{with_numbered}
 use Rattle.virtio_mmio.specs.Device.{Device, raise_used}
 use Rattle.virt_queue.specs.declared.fields.RingFault.{RingFault}
+use Rattle.virt_queue.specs.Chain.{is_given, chain_of}
 use Rattle.virt_queue.specs.Parts.{DescriptorChain}
 use Rattle.virtio_mmio.specs.declared.kind.Served.{Served}
 use Rattle.virtio_mmio.specs.declared.kind.Served.TheVariants.{Done, Idle, Broken}
 use Rattle.virtio_net.specs.Port.{Card, Port, port_of, receive_queue, send_queue, queue_of, works_on, next_of, take_chain, return_chain}
 use Rattle.virtio_net.specs.Receive.{Delivery, deliver_by, deliver}
 use Rattle.virtio_net.specs.Send.{Sending, frame_in, output, request_in, answer_request, served, send_by, send_chain, send_chains, send, follow_by, follow, after_frames, fault_of, can_answer}
+use Rattle.virtio_net.proofs.PortLemmas.{none_given, some_given, given_err}
 
 send_is : (port : Port) (r : Result (Option DescriptorChain) RingFault) → next_of port send_queue ≡ r →
     send_chain port ≡ send_by port r
 unfolding send_chain
 send_is port r e = ap (send_by port) e
 
-pub send_none : (port : Port) → next_of port send_queue ≡ Ok None →
-    send_chain port ≡ (let none : Sending = record { port = port; frames = []; answer = Idle } in none)
-send_none port e = send_is port (Ok None) e
+-- a call answers what is sent, and leaves its port and its frames
+pub record IsSent (sending : Sending) (answer : Served) (port : Port) (before out : List (List ℕ)) : Type 0 where
+  pub answer_is : answer ≡ sending.answer
+  pub port_is : port ≡ sending.port
+  pub frames_are : out ≡ before ++ sending.frames
 
-pub send_fault : (port : Port) (fault : RingFault) → next_of port send_queue ≡ Err fault →
-    send_chain port
-    ≡ (let failed : Sending = record {
-      port = take_chain port send_queue (Err fault);
-      frames = [];
-      answer = Broken
-          fault;
-    } in failed)
-send_fault port fault e = send_is port (Err fault) e
+-- without a frame, by the answer of the ring
+send_nothing : (port : Port) (r : Result (Option DescriptorChain) RingFault) (answer : Served) (left : Port) (card :
+    Card) (out : List (List ℕ)) → next_of port send_queue ≡ r →
+    send_by port r ≡ (let none : Sending = record { port = left; frames = []; answer = answer } in none) →
+    port_of card port.memory ≡ left → IsSent (send_chain port) answer (port_of card port.memory) out out
+send_nothing port r answer left card out e by is =
+    let whole = send_is port r e ∙ by in
+    record {
+      answer_is = sym (ap (λ (s : Sending). s.answer) whole);
+      port_is = is ∙ sym (ap (λ (s : Sending). s.port) whole);
+      frames_are = sym (ap (λ (s : Sending). out ++ s.frames) whole ∙ append-nil out);
+    }
+
+pub send_none : (port : Port) (b : Bool) (card : Card) (out : List (List ℕ)) →
+    is_given (next_of port send_queue) ≡ Ok b → b ≡ false →
+    card ≡ (take_chain port send_queue (next_of port send_queue)).card →
+    IsSent (send_chain port) Idle (port_of card port.memory) out out
+send_none port b card out given is taken =
+    let none = none_given (next_of port send_queue) b given is in
+    send_nothing port (Ok None) Idle port card out none refl
+    (ap (λ x. port_of x port.memory) (taken ∙ ap (λ r. (take_chain port send_queue r).card) none))
+
+pub send_fault : (port : Port) (fault : RingFault) (card : Card) (out : List (List ℕ)) →
+    is_given (next_of port send_queue) ≡ Err fault →
+    card ≡ (take_chain port send_queue (next_of port send_queue)).card →
+    IsSent (send_chain port) (Broken fault) (port_of card port.memory) out out
+send_fault port fault card out given taken =
+    let failed = given_err (next_of port send_queue) fault given in
+    send_nothing port (Err fault) (Broken fault) (take_chain port send_queue (Err fault)) card out failed refl
+    (ap (λ x. port_of x port.memory) (taken ∙ ap (λ r. (take_chain port send_queue r).card) failed))
 
 -- what becomes of a chain's frame once the chain was returned
 abbrev pub sending_of : Port → Option (List ℕ) → Sending
 sending_of returned frame = let answered = answer_request returned (request_in frame) in
     record { port = answered.port; frames = output frame; answer = served answered.fault }
 
-pub send_frame_is : (port : Port) (chain : DescriptorChain) (card : Card) (head : ℕ) (frame : Option (List ℕ)) →
+send_frame_is : (port : Port) (chain : DescriptorChain) (card : Card) (head : ℕ) (frame : Option (List ℕ)) →
     next_of port send_queue ≡ Ok (Some chain) → card ≡ (take_chain port send_queue (Ok (Some chain))).card →
     head ≡ chain.head →
     frame ≡ frame_in port.memory.bytes chain →
@@ -47,6 +72,19 @@ pub send_frame_is : (port : Port) (chain : DescriptorChain) (card : Card) (head 
 send_frame_is port chain card head frame e c h f =
     send_is port (Ok (Some chain)) e
     ∙ (λ i. sending_of (return_chain (port_of (sym c i) port.memory) send_queue (sym h i) 0) (sym f i))
+
+-- the same by what the calls answered and left
+pub send_frame : (port : Port) (b : Bool) (card : Card) (chain : DescriptorChain) (head : ℕ)
+    (frame : Option (List ℕ)) (returned : Port) → is_given (next_of port send_queue) ≡ Ok b → b ≡ true →
+    card ≡ (take_chain port send_queue (next_of port send_queue)).card →
+    chain ≡ chain_of (next_of port send_queue) → head ≡ chain.head → frame ≡ frame_in port.memory.bytes chain →
+    returned ≡ return_chain (port_of card port.memory) send_queue head 0 → send_chain port ≡ sending_of returned frame
+send_frame port b card chain head frame returned given is c taken h f r =
+    let some = some_given (next_of port send_queue) b given is in
+    send_frame_is port (chain_of (next_of port send_queue)) card head frame some
+    (c ∙ ap (λ x. (take_chain port send_queue x).card) some)
+    (h ∙ ap (λ (x : DescriptorChain). x.head) taken) (f ∙ ap (frame_in port.memory.bytes) taken)
+    ∙ ap (λ p. sending_of p frame) (sym r)
 
 pub served_ok : (fault : Option RingFault) → fault_of fault ≡ Ok tt → served fault ≡ Done
 served_ok None e = refl
@@ -193,12 +231,6 @@ sends_go_on start now num k so_far before out next more u lt done is frames = re
   works = ap (λ (p : Port). works_on p.card.device send_queue) is ∙ (works_on_after now done ∙ u.works);
 }
 
--- a call answers what a notify sends, and leaves its port and its frames
-pub record IsSent (sending : Sending) (answer : Served) (port : Port) (before out : List (List ℕ)) : Type 0 where
-  pub answer_is : answer ≡ sending.answer
-  pub port_is : port ≡ sending.port
-  pub frames_are : out ≡ before ++ sending.frames
-
 -- a notify that ends at a chain, or without one
 pub sends_end : (start now : Port) (num k : ℕ) (so_far : Served) (before out : List (List ℕ)) (last : Served)
     (answer :
@@ -237,6 +269,14 @@ pub send_live : (port : Port) → works_on port.card.device send_queue ≡ true 
     send port ≡ send_chains (queue_of port.card.device send_queue).num Idle port
 unfolding send
 send_live port w = rw w refl
+
+-- what was sent of so many chains is what the notify sends
+pub of_notify : (start : Port) (num : ℕ) (answer : Served) (port : Port) (before out : List (List ℕ)) →
+    num ≡ (queue_of start.card.device send_queue).num → works_on start.card.device send_queue ≡ true →
+    IsSent (send_chains num Idle start) answer port before out → IsSent (send start) answer port before out
+of_notify start num answer port before out is works sent =
+    subst (λ (s : Sending). IsSent s answer port before out)
+    (sym (send_live start works ∙ ap (λ (n : ℕ). send_chains n Idle start) (sym is))) sent
 
 pub send_idle : (port : Port) → works_on port.card.device send_queue ≡ false →
     send port ≡ (let none : Sending = record { port = port; frames = []; answer = Idle } in none)

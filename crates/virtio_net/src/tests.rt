@@ -10,7 +10,7 @@ use std::test::Fail;
 use virt_queue::{QueueFields, RingFault};
 use virtio_mmio::{DeviceFields, Served};
 
-/// Queue 0 at 0x80000000 and queue 1 at 0x80003000, each with its rings 0x1000 and 0x2000 behind.
+/// Queue 0 at 0x80000000 and queue 1 at 0x80003000, each with its rings 0x1000 and 0x2000 after it.
 const RECEIVE: u64 = 0x8000_0000;
 
 const SEND: u64 = 0x8000_3000;

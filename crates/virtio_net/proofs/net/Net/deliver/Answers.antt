@@ -1,11 +1,10 @@
-use Rattle.std.proofs.Common.{◌∙◌, Bool, Result, Ok, refl, ap, sym}
+use Rattle.std.proofs.Common.{◌≡◌, ◌∙◌, None, refl, ap, sym}
 use Rattle.std.proofs.lemmas.Result.{err_from_is_err_and}
-use Rattle.virt_queue.specs.declared.fields.RingFault.{RingFault}
-use Rattle.virt_queue.specs.Parts.{DescriptorChain}
 use Rattle.virtio_net.specs.Port.{port_of, next_of, take_chain, receive_queue}
-use Rattle.virtio_net.specs.Receive.{fill_chain, filled_len, Delivery}
-use Rattle.virtio_net.proofs.PortLemmas.{given_some, given_err, ring_of_chain, deliver_fault, deliver_chain}
+use Rattle.virtio_net.specs.Receive.{Delivery, deliver}
+use Rattle.virtio_net.proofs.PortLemmas.{some_given, given_err, ring_of_chain, deliver_fault, deliver_chain}
 use Rattle.virtio_net.proofs.net.Net.deliver.Goals as goal
+use Rattle.virtio_net.proofs.net.Net.deliver.Goals.{After-give_back}
 
 pub returns-in_err-take-clause-answer : goal.returns-in_err-take-clause-answer
 returns-in_err-take-clause-answer c =
@@ -25,39 +24,23 @@ returns-in_err-take-clause-port c =
 pub give_back-requires-clause-ring : goal.give_back-requires-clause-ring
 give_back-requires-clause-ring c =
     let port = port_of c.args.self.now c.args.ram.now in
-    let some = given_some (next_of port receive_queue)
-    (sym c.in_ok-take.ensures.answer ∙ ap (λ
-    (b : Bool). let r : Result Bool RingFault = Ok b in r) c.if-branch.true) in
+    let some = some_given (next_of port receive_queue) _ (sym c.in_ok-take.ensures.answer) c.if-branch.true in
     let ring = ring_of_chain c.args.ram.now.bytes c.args.self.now.device.first _ some in
     let card = c.take.ensures.card ∙ ap (λ r. (take_chain port receive_queue r).card) some in
     rw (c.fill-len.ensures.size, card) ring
 
+-- a chain came, and was filled and returned
+delivered : (c : After-give_back) → deliver (port_of c.args.self.now c.args.ram.now) c.args.frame.now
+    ≡ (let done : Delivery = record { port = port_of c.give_back.new.self c.give_back.new.ram; fault = None } in done)
+delivered c = deliver_chain (port_of c.args.self.now c.args.ram.now) c.args.frame.now _ c.take.new.self
+    c.take.new.chain c.fill-len.new.ram c.head.result c.fill-len.result _ (sym c.in_ok-take.ensures.answer)
+    c.if-branch.true c.take.ensures.card c.take.ensures.chain c.fill-len.ensures.memory c.head.ensures
+    c.fill-len.ensures.len c.give_back.ensures.port
+
 pub returns-then-branch-clause-answer : goal.returns-then-branch-clause-answer
 returns-then-branch-clause-answer c =
-    let port = port_of c.args.self.now c.args.ram.now in
-    let some = given_some (next_of port receive_queue)
-    (sym c.in_ok-take.ensures.answer ∙ ap (λ
-    (b : Bool). let r : Result Bool RingFault = Ok b in r) c.if-branch.true) in
-    let card = c.take.ensures.card ∙ ap (λ r. (take_chain port receive_queue r).card) some in
-    let chain = c.take.ensures.chain in
-    let is = deliver_chain port c.args.frame.now _ c.take.new.self c.fill-len.new.ram c.head.result c.fill-len.result
-    some card
-    (c.fill-len.ensures.memory ∙ ap (λ x. fill_chain c.args.ram.now x c.args.frame.now) chain)
-    (c.head.ensures ∙ ap (λ (x : DescriptorChain). x.head) chain)
-    (c.fill-len.ensures.len ∙ ap (λ x. filled_len x c.args.frame.now) chain) in
-    rw is refl
+    rw (delivered (goal.at.returns-then-branch-clause-answer c).After-give_back) refl
 
 pub returns-then-branch-clause-port : goal.returns-then-branch-clause-port
 returns-then-branch-clause-port c =
-    let port = port_of c.args.self.now c.args.ram.now in
-    let some = given_some (next_of port receive_queue)
-    (sym c.in_ok-take.ensures.answer ∙ ap (λ
-    (b : Bool). let r : Result Bool RingFault = Ok b in r) c.if-branch.true) in
-    let card = c.take.ensures.card ∙ ap (λ r. (take_chain port receive_queue r).card) some in
-    let chain = c.take.ensures.chain in
-    let is = deliver_chain port c.args.frame.now _ c.take.new.self c.fill-len.new.ram c.head.result c.fill-len.result
-    some card
-    (c.fill-len.ensures.memory ∙ ap (λ x. fill_chain c.args.ram.now x c.args.frame.now) chain)
-    (c.head.ensures ∙ ap (λ (x : DescriptorChain). x.head) chain)
-    (c.fill-len.ensures.len ∙ ap (λ x. filled_len x c.args.frame.now) chain) in
-    c.give_back.ensures.port ∙ sym (ap (λ (x : Delivery). x.port) is)
+    sym (ap (λ (x : Delivery). x.port) (delivered (goal.at.returns-then-branch-clause-port c).After-give_back))
