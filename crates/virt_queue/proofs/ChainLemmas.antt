@@ -36,11 +36,17 @@ walk_begins bytes q index chain i h p = record {
 }
 
 -- the fault of a descriptor as a walk finds it
-pub fault_found : (bytes : List ℕ) (q : QueueFields) (k index : ℕ) (after : Bool) (chain : DescriptorChain) →
+fault_found : (bytes : List ℕ) (q : QueueFields) (k index : ℕ) (after : Bool) (chain : DescriptorChain) →
     Walking bytes q k index after chain → first_of (tests bytes q k index after) ≡ fault_at bytes q k
 fault_found bytes q k index after chain w =
     ap (λ (i : ℕ). first_of (tests bytes q k i after)) w.index_is
     ∙ ap (λ (a : Bool). first_of (tests bytes q k (index_at bytes q k) a)) w.after_is
+
+-- the descriptor that a walk finds
+link_is : (bytes : List ℕ) (q : QueueFields) (k index : ℕ) (after : Bool) (chain : DescriptorChain) (d :
+    Descriptor) →
+    Walking bytes q k index after chain → d ≡ descriptor_at bytes q index → d ≡ link bytes q k
+link_is bytes q k index after chain d w e = e ∙ ap (descriptor_at bytes q) w.index_is
 
 index_more : (bytes : List ℕ) (q : QueueFields) (k : ℕ) → (link bytes q k).next ≡ index_at bytes q (k + 1)
 unfolding index_at
@@ -64,17 +70,21 @@ more_parts bytes q k parts d p is =
 
 pub walk_goes_on : (bytes : List ℕ) (q : QueueFields) (k index : ℕ) (after : Bool) (chain left : DescriptorChain) (d :
     Descriptor) →
-    Walking bytes q k index after chain → fault_at bytes q k ≡ None → d ≡ link bytes q k → has_next d ≡ true →
+    Walking bytes q k index after chain → first_of (tests bytes q k index after) ≡ None →
+    d ≡ descriptor_at bytes q index → has_next d ≡ true →
     left.head ≡ chain.head → left.parts ≡ chain.parts ++ part_of d ∷ [] →
     Walking bytes q (k + 1) d.next (is_writable d) left
-walk_goes_on bytes q k index after chain left d w none is next head parts = record {
-  index_is = ap (λ (x : Descriptor). x.next) is ∙ index_more bytes q k;
-  after_is = ap is_writable is ∙ after_more bytes q k;
-  passed = below_more (λ (j : ℕ). stops bytes q j ≡ false) k w.passed
-      (goes_on (fault_at bytes q k) (has_next (link bytes q k)) none (ap has_next (sym is) ∙ next));
-  head = head ∙ w.head;
-  parts = parts ∙ more_parts bytes q k chain.parts d w.parts is;
-}
+walk_goes_on bytes q k index after chain left d w fits at next head parts =
+    let none = sym (fault_found bytes q k index after chain w) ∙ fits in
+    let is = link_is bytes q k index after chain d w at in
+    record {
+      index_is = ap (λ (x : Descriptor). x.next) is ∙ index_more bytes q k;
+      after_is = ap is_writable is ∙ after_more bytes q k;
+      passed = below_more (λ (j : ℕ). stops bytes q j ≡ false) k w.passed
+          (goes_on (fault_at bytes q k) (has_next (link bytes q k)) none (ap has_next (sym is) ∙ next));
+      head = head ∙ w.head;
+      parts = parts ∙ more_parts bytes q k chain.parts d w.parts is;
+    }
 
 -- the first place that stops
 pub last_place_is : (bytes : List ℕ) (q : QueueFields) (k : ℕ) → k ≤ q.num → ((j : ℕ) → j < k →
@@ -130,10 +140,12 @@ same_chain left head parts h p = λ i. record { head = sym h i; parts = sym p i 
 
 pub walk_ends : (bytes : List ℕ) (q : QueueFields) (k index : ℕ) (after : Bool) (chain left : DescriptorChain) (d :
     Descriptor) →
-    k ≤ q.num → Walking bytes q k index after chain → fault_at bytes q k ≡ None → d ≡ link bytes q k →
-    has_next d ≡ false →
+    k ≤ q.num → Walking bytes q k index after chain → first_of (tests bytes q k index after) ≡ None →
+    d ≡ descriptor_at bytes q index → has_next d ≡ false →
     left.head ≡ chain.head → left.parts ≡ chain.parts ++ part_of d ∷ [] → read_chain bytes q ≡ Ok left
-walk_ends bytes q k index after chain left d le w none is next head parts =
+walk_ends bytes q k index after chain left d le w fits at next head parts =
+    let none = sym (fault_found bytes q k index after chain w) ∙ fits in
+    let is = link_is bytes q k index after chain d w at in
     let last = last_place_is bytes q k le w.passed
     (λ lt. stops_well (fault_at bytes q k) (has_next (link bytes q k)) (ap has_next (sym is) ∙ next)) in
     read_at bytes q k last
@@ -178,12 +190,6 @@ walk_is_bounded bytes q index after chain w =
 pub few_parts : (bytes : List ℕ) (q : QueueFields) (k : ℕ) (parts : List Part) → parts ≡ first_parts bytes q k →
     length parts ≡ k
 few_parts bytes q k parts e = ap length e ∙ length-map-range_with_len (λ (j : ℕ). part_of (link bytes q j)) 0 k
-
--- the descriptor that a walk finds
-pub link_is : (bytes : List ℕ) (q : QueueFields) (k index : ℕ) (after : Bool) (chain : DescriptorChain) (d :
-    Descriptor) →
-    Walking bytes q k index after chain → d ≡ descriptor_at bytes q index → d ≡ link bytes q k
-link_is bytes q k index after chain d w e = e ∙ ap (descriptor_at bytes q) w.index_is
 
 -- the part that a walk pushes
 pub push_part : (parts : List Part) (d : Descriptor) (writable : Bool) → writable ≡ is_writable d →

@@ -1,4 +1,4 @@
 pub mod ChainLemmas
 pub mod PartLemmas
 pub mod QueueLemmas
-pub mod RingLaw
+pub mod RingLemmas

@@ -312,30 +312,25 @@ read_past bytes parts from before k s filled into p all i h w le =
       within = i.within;
     }
 
--- bytes copied behind those that were
+-- bytes copied after those that were
+length_filled : (into part : List ℕ) (filled count : ℕ) → filled + count ≤ length into → length part ≡ count →
+    length (take filled into ++ part) ≡ filled + count
+length_filled into part filled count h e =
+    omega (arith, length-append (take filled into) part, length-take filled into)
+
 copied : (into part : List ℕ) (filled count : ℕ) → filled + count ≤ length into → length part ≡ count →
     take (filled + count) (take filled into ++ (part ++ drop count (drop filled into))) ≡ take filled into ++ part
 copied into part filled count h e =
-    let front : length (take filled into ++ part) ≡ filled + count = omega (
-      arith,
-      length-append (take filled into)
-          part,
-      length-take filled into,
-    ) in
     ap (take (filled + count)) (sym (append_assoc (take filled into) part (drop count (drop filled into))))
-    ∙ take_at (take filled into ++ part) (drop count (drop filled into)) (filled + count) front
+    ∙ take_at (take filled into ++ part) (drop count (drop filled into)) (filled + count)
+    (length_filled into part filled count h e)
 
 copied_rest : (into part : List ℕ) (filled count : ℕ) → filled + count ≤ length into → length part ≡ count →
     drop (filled + count) (take filled into ++ (part ++ drop count (drop filled into))) ≡ drop (filled + count) into
 copied_rest into part filled count h e =
-    let front : length (take filled into ++ part) ≡ filled + count = omega (
-      arith,
-      length-append (take filled into)
-          part,
-      length-take filled into,
-    ) in
     ap (drop (filled + count)) (sym (append_assoc (take filled into) part (drop count (drop filled into))))
-    ∙ (drop_at (take filled into ++ part) (drop count (drop filled into)) (filled + count) front
+    ∙ (drop_at (take filled into ++ part) (drop count (drop filled into)) (filled + count)
+    (length_filled into part filled count h e)
     ∙ drop-drop count filled into)
 
 pub read_here : (bytes : List ℕ) (parts : List Part) (from : ℕ) (before : List ℕ) (k s filled : ℕ) (into : List ℕ) (p :
@@ -419,6 +414,14 @@ pub found : (bytes : List ℕ) (address n : ℕ) (o : Option (List ℕ)) → o �
     is_inside (length bytes) address n ≡ true →
     o ≡ Some (part_at bytes address n)
 found bytes address n o e h = e ∙ (rw h refl)
+
+-- the bytes of the k-th part from its byte s on
+pub found_from : (bytes : List ℕ) (parts : List Part) (k : ℕ) (p : Part) (s n : ℕ) (o : Option (List ℕ)) →
+    parts_inside (length bytes) parts ≡ true → slice_get parts k ≡ Some p → s < p.len → s + n ≤ p.len →
+    o ≡ find_part bytes (p.addr + s) n → o ≡ Some (part_at bytes (p.addr + s) n)
+found_from bytes parts k p s n o all here lt le e =
+    found bytes (p.addr + s) n o e
+    (inside_within (length bytes) p.addr p.len s n (part_inside (length bytes) parts k p all here) lt le)
 
 pub some_copied : (o : Option (Bor (List ℕ))) (bytes : List ℕ) → option_copied o ≡ Some bytes → IsSome o
 some_copied None bytes e = cc

@@ -92,7 +92,7 @@ impl Queue {
     /// on. After `false` or a fault the chain has no parts and the queue is as before.
     ///
     /// It asks a ready queue.
-    #[tactic(auto, using(crate::proofs::RingLaw::ready_after), unfolding(crate::specs::Chain::next_chain))]
+    #[tactic(auto, using(crate::proofs::RingLemmas::ready_after), unfolding(crate::specs::Chain::next_chain))]
     pub fn next_chain(&mut self, ram: &Ram, chain: &mut Chain) -> Result<bool, RingFault>
         requires { IsTrue self.old.ready }
         ensures answer { result ≡ is_given (next_chain ram.now.bytes self.old) }

@@ -17,18 +17,21 @@ pub struct Descriptor {
 }
 
 impl Descriptor {
+    /// Whether another descriptor of the chain follows.
     pub fn has_next(&self) -> bool
         ensures { result ≡ has_next self.now }
     {
         self.flags & 1 != 0
     }
 
+    /// Whether the device may write its bytes.
     pub fn is_writable(&self) -> bool
         ensures { result ≡ is_writable self.now }
     {
         self.flags & 2 != 0
     }
 
+    /// Whether its bytes are a table of descriptors.
     pub fn is_indirect(&self) -> bool
         ensures { result ≡ is_indirect self.now }
     {

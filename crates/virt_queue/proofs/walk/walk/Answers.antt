@@ -1,8 +1,8 @@
 use Rattle.std.proofs.Common.{◌≡◌, ◌≤◌, ◌<◌, ◌+◌, true, false, refl, sym, ◌∙◌, arith}
 use Rattle.std.proofs.lemmas.Result.{err_from_is_err_and}
 use Rattle.virt_queue.specs.Ring.{has_next}
-use Rattle.virt_queue.proofs.ChainLemmas.{walk_begins, walk_goes_on, walk_ends, walk_fails, walk_is_bounded, fault_found, link_is, few_parts, push_part}
-use Rattle.virt_queue.proofs.RingLaw.{read_inside}
+use Rattle.virt_queue.proofs.ChainLemmas.{walk_begins, walk_goes_on, walk_ends, walk_fails, walk_is_bounded, few_parts, push_part}
+use Rattle.virt_queue.proofs.RingLemmas.{read_inside}
 use Rattle.virt_queue.proofs.QueueLemmas.{queue_size-le}
 use Rattle.virt_queue.proofs.walk.walk.Goals as goal
 
@@ -27,31 +27,20 @@ pub returns-then-not-has_next : goal.returns-then-not-has_next
 returns-then-not-has_next c =
     let bytes = c.args.ram.now.bytes in
     let q = c.args.q.now in
-    let w = c.loop-k.invariant in
     let d = c.in_ok-d.d in
-    let answer = c.in_ok-d.ensures.answer in
-    let none = sym (fault_found bytes q c.loop-k.k c.loop-k.index c.loop-k.after c.loop-k.chain w) ∙ answer.0 in
-    let is = link_is bytes q c.loop-k.k c.loop-k.index c.loop-k.after c.loop-k.chain d w answer.1 in
     let end : has_next d ≡ false = sym c.has_next.ensures ∙ c.if-not-has_next.true in
     let parts = c.push.ensures.parts ∙ push_part c.loop-k.chain.parts d c.is_writable.result c.is_writable.ensures in
     let read = walk_ends bytes q c.loop-k.k c.loop-k.index c.loop-k.after c.loop-k.chain c.push.new.self d (omega
-    arith) w none is end
-    c.push.ensures.head parts in
+    arith) c.loop-k.invariant c.in_ok-d.ensures.answer.0 c.in_ok-d.ensures.answer.1 end c.push.ensures.head parts in
     record { read = rw read (refl, refl); inside = read_inside bytes q c.push.new.self read }
 
 pub loop-k-preserved : goal.loop-k-preserved
 loop-k-preserved c =
-    let bytes = c.args.ram.now.bytes in
-    let q = c.args.q.now in
-    let w = c.loop-k.invariant in
     let d = c.in_ok-d.d in
-    let answer = c.in_ok-d.ensures.answer in
-    let none = sym (fault_found bytes q c.loop-k.k c.loop-k.index c.loop-k.after c.loop-k.chain w) ∙ answer.0 in
-    let is = link_is bytes q c.loop-k.k c.loop-k.index c.loop-k.after c.loop-k.chain d w answer.1 in
     let more : has_next d ≡ true = sym c.has_next.ensures ∙ c.if-not-has_next.false in
     let parts = c.push.ensures.parts ∙ push_part c.loop-k.chain.parts d c.is_writable.result c.is_writable.ensures in
-    let next = walk_goes_on bytes q c.loop-k.k c.loop-k.index c.loop-k.after c.loop-k.chain c.push.new.self d w none is
-    more
+    let next = walk_goes_on c.args.ram.now.bytes c.args.q.now c.loop-k.k c.loop-k.index c.loop-k.after c.loop-k.chain
+    c.push.new.self d c.loop-k.invariant c.in_ok-d.ensures.answer.0 c.in_ok-d.ensures.answer.1 more
     c.push.ensures.head parts in
     record {
       index_is = c.from-index.ensures ∙ next.index_is;

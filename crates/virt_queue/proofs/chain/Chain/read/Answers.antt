@@ -1,5 +1,5 @@
 use Rattle.std.proofs.Common.{◌≡◌, ◌+◌, ◌-◌, ◌<◌, ◌≤◌, ℕ, min, length, take, drop, ◌++◌, ap, ◌∙◌, arith, rules}
-use Rattle.virt_queue.proofs.PartLemmas.{part_inside, ends_inside, inside_within, found, some_copied, copied_is, read_begins, read_other, read_past, read_here, read_count, read_whole}
+use Rattle.virt_queue.proofs.PartLemmas.{part_inside, ends_inside, found_from, some_copied, copied_is, read_begins, read_other, read_past, read_here, read_count, read_whole}
 use Rattle.virt_queue.proofs.chain.Chain.read.Goals as goal
 
 pub loop-k-init : goal.loop-k-init
@@ -34,13 +34,10 @@ overflow_add-part c =
 pub unwrap-bytes-requires : goal.unwrap-bytes-requires
 unwrap-bytes-requires c =
     let p = c.at-part.result in
-    let bytes = c.args.ram.now.bytes in
-    let in_memory = part_inside (length bytes) c.args.self.now.parts c.loop-k.k p c.requires c.at-part.ensures in
     let lt : c.loop-k.skip < p.len = omega arith in
     let le : c.loop-k.skip + c.min-count.result ≤ p.len = omega (arith, c.min-count.ensures, c.from-len.ensures) in
-    let within = inside_within (length bytes) p.addr p.len c.loop-k.skip c.min-count.result in_memory lt le in
-    let some = found bytes (p.addr + c.loop-k.skip) c.min-count.result _ c.part.ensures within in
-    some_copied c.part.result _ some
+    some_copied c.part.result _ (found_from c.args.ram.now.bytes c.args.self.now.parts c.loop-k.k p c.loop-k.skip
+    c.min-count.result _ c.requires c.at-part.ensures lt le c.part.ensures)
 
 pub slice_bounds-copy_from_slice-end : goal.slice_bounds-copy_from_slice-end
 slice_bounds-copy_from_slice-end c =
@@ -52,11 +49,10 @@ pub loop-k-preserved : goal.loop-k-preserved
 loop-k-preserved c =
     let p = c.at-part.result in
     let bytes = c.args.ram.now.bytes in
-    let in_memory = part_inside (length bytes) c.args.self.now.parts c.loop-k.k p c.requires c.at-part.ensures in
     let lt : c.loop-k.skip < p.len = omega arith in
     let le : c.loop-k.skip + c.min-count.result ≤ p.len = omega (arith, c.min-count.ensures, c.from-len.ensures) in
-    let within = inside_within (length bytes) p.addr p.len c.loop-k.skip c.min-count.result in_memory lt le in
-    let some = found bytes (p.addr + c.loop-k.skip) c.min-count.result _ c.part.ensures within in
+    let some = found_from bytes c.args.self.now.parts c.loop-k.k p c.loop-k.skip c.min-count.result _ c.requires
+    c.at-part.ensures lt le c.part.ensures in
     let count = c.min-count.ensures
     ∙ ap (λ (n : ℕ). min (n - c.loop-k.skip) (length c.loop-k.into - c.loop-k.filled)) c.from-len.ensures in
     let part = copied_is c.part.result c.unwrap-bytes.result _ some c.unwrap-bytes.ensures in
