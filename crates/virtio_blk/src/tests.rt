@@ -150,3 +150,37 @@ fn sector_written_from_two_parts(rt: HostRuntime) -> Result<(), Fail> {
     assert_eq!(rt; ram.load(0x8000_3000, 1), Some(2));
     Ok(())
 }
+
+/// OUT of sector 0 from a part of 512 bytes, of which the first and last words are told; then IN of
+/// the same sector into that part, which was overwritten meanwhile: it holds the words again.
+#[test]
+fn a_read_gets_what_an_earlier_write_wrote(rt: HostRuntime) -> Result<(), Fail> {
+    let mut ram = Ram::new(rt.alloc(), 1)?;
+    let mut disk = OneSector { bytes: [0x41; 512] };
+    let mut blk = running();
+    put(&mut ram, &READ);
+    put(
+        &mut ram,
+        &[
+            (0x8000_0018, 512),
+            (0x8000_001C, 0x0002_0001),
+            (0x8000_0020, 0x8000_3000),
+            (0x8000_0028, 1),
+            (0x8000_002C, 2),
+            (0x8000_1000, 1),
+            (0x8000_2000, 0x0403_0201),
+            (0x8000_21FC, 0x0807_0605),
+        ],
+    );
+    assert_eq!(rt; blk.serve(&mut ram, &mut disk), Served::Done);
+    put(&mut ram, &READ);
+    put(&mut ram, &[(0x8000_0100, 0x0002_0000)]);
+    assert_eq!(rt; blk.serve(&mut ram, &mut disk), Served::Done);
+    assert_eq!(rt; ram.load(0x8000_2000, 4), Some(0x0403_0201));
+    assert_eq!(rt; ram.load(0x8000_2004, 4), Some(0));
+    assert_eq!(rt; ram.load(0x8000_21FC, 4), Some(0x0807_0605));
+    assert_eq!(rt; ram.load(0x8000_2200, 4), Some(0x5555_5500));
+    assert_eq!(rt; ram.load(0x8000_0208, 4), Some(1));
+    assert_eq!(rt; ram.load(0x8000_0210, 4), Some(513));
+    Ok(())
+}
