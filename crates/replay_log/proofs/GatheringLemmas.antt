@@ -1,5 +1,5 @@
 -- A text's lines are those of one kind.
-use Rattle.std.proofs.Common.{◌≡◌, ℕ, zero, suc, ◌+◌, ◌-◌, ◌<◌, Bool, true, false, not, List, [], ◌∷◌, ◌++◌, All, map, flat_map, length, take, get_or, refl, sym, ap, subst, ◌∙◌, inl, inr, arith, append_assoc}
+use Rattle.std.proofs.Common.{◌≡◌, ℕ, zero, suc, ◌+◌, ◌-◌, ◌<◌, Bool, true, false, not, List, [], ◌∷◌, ◌++◌, All, map, flat_map, Option, length, take, get_or, refl, sym, ap, subst, ◌∙◌, inl, inr, arith, append_assoc}
 use Rattle.std.specs.List.{Contains, list_all, filter_map}
 use Rattle.std.proofs.lemmas.Bool.{cases_Bool, true≢false, and_parts, and_from}
 use Rattle.std.proofs.lemmas.List.{append-nil, map-append, take_more, length-take}
@@ -43,6 +43,18 @@ is_turn_form (form.Event l a) = false
 is_turn_form (form.Mark m) = false
 is_turn_form (form.Turn t) = true
 
+-- where each item of the kind is kept, and the forms are of that kind, all are
+kind_again : {X : Type 0} (forms : List Form) (is_kind : Form → Bool) (inject : X → Item) (pick : Item → Option X) →
+    list_all is_kind forms ≡ true →
+    ((x : Item) (xs : List Item) → is_kind (item_form x) ≡ true → map inject (filter_map pick xs) ≡ xs →
+    map inject (filter_map pick (x ∷ xs)) ≡ x ∷ xs) → (items : List Item) → All (HasSpelling forms) items →
+    map inject (filter_map pick items) ≡ items
+kind_again forms is_kind inject pick all alone [] good = refl
+kind_again forms is_kind inject pick all alone (x ∷ xs) good =
+    let first = All-head (HasSpelling forms) x xs good in
+    alone x xs (passes_each is_kind forms (item_form x) all first.form)
+    (kind_again forms is_kind inject pick all alone xs (All-tail (HasSpelling forms) x xs good))
+
 line_alone : (x : Item) (ls : List Item) → is_line_form (item_form x) ≡ true →
     map item.Line (filter_map line_in ls) ≡ ls → map item.Line (filter_map line_in (x ∷ ls)) ≡ x ∷ ls
 line_alone (item.Line l) ls h e = ap (λ rest. item.Line l ∷ rest) e
@@ -52,11 +64,7 @@ line_alone (item.Turn t) ls h e = absurd (true≢false (sym h))
 
 pub lines_again : (items : List Item) → All (HasSpelling schedule_forms) items →
     map item.Line (filter_map line_in items) ≡ items
-lines_again [] good = refl
-lines_again (x ∷ xs) good =
-    let first = All-head (HasSpelling schedule_forms) x xs good in
-    line_alone x xs (passes_each is_line_form schedule_forms (item_form x) refl first.form)
-    (lines_again xs (All-tail (HasSpelling schedule_forms) x xs good))
+lines_again = kind_again schedule_forms is_line_form item.Line line_in refl line_alone
 
 turn_alone : (x : Item) (ts : List Item) → is_turn_form (item_form x) ≡ true →
     map item.Turn (filter_map turn_in ts) ≡ ts → map item.Turn (filter_map turn_in (x ∷ ts)) ≡ x ∷ ts
@@ -67,16 +75,14 @@ turn_alone (item.Turn t) ts h e = ap (λ rest. item.Turn t ∷ rest) e
 
 pub turns_again : (items : List Item) → All (HasSpelling single_forms) items →
     map item.Turn (filter_map turn_in items) ≡ items
-turns_again [] good = refl
-turns_again (x ∷ xs) good =
-    let first = All-head (HasSpelling single_forms) x xs good in
-    turn_alone x xs (passes_each is_turn_form single_forms (item_form x) refl first.form)
-    (turns_again xs (All-tail (HasSpelling single_forms) x xs good))
+turns_again = kind_again single_forms is_turn_form item.Turn turn_in refl turn_alone
 
 -- the same text, by its lines of one kind
-pub same_text : (forms : List Form) (items others : List Item) (text : List ℕ) → others ≡ items →
-    IsText forms items text → IsText forms others text
-same_text forms items others text e t = subst (λ (xs : List Item). IsText forms xs text) (sym e) t
+pub same_text : (forms given : List Form) (items others : List Item) (text : List ℕ) → given ≡ forms →
+    (All (HasSpelling forms) items → others ≡ items) → IsText given items text → IsText forms others text
+same_text forms given items others text is same t =
+    let read : IsText forms items text = subst (λ (fs : List Form). IsText fs items text) is t in
+    subst (λ (xs : List Item). IsText forms xs text) (sym (same read.good)) read
 
 -- ---- logs
 

@@ -51,59 +51,33 @@ free_slashed c front back ne f g =
     list_all-append (is_other c) front (slash ∷ back) ∙ and_from (is_free c front) (is_free c (slash ∷ back)) f
     (and_from (is_other c slash) (is_free c back) (other c slash ne) g)
 
-free_space : (k : Keyword) → is_free space (keyword_text k) ≡ true
-free_space keyword.Primary = refl
-free_space keyword.Secondary = refl
-free_space keyword.Client = refl
-free_space keyword.ToSecondary = refl
-free_space keyword.ToPrimary = refl
-free_space keyword.Stop = refl
-free_space keyword.OfPrimary = refl
-free_space keyword.OfSecondary = refl
-free_space keyword.Report = refl
-free_space keyword.Ask = refl
-free_space keyword.Answered = refl
-free_space keyword.Absent = refl
-free_space keyword.Arp = refl
-free_space keyword.Drop = refl
-free_space keyword.Full = refl
-free_space keyword.Lost = refl
-free_space keyword.Mark = refl
-free_space keyword.Captured = refl
-free_space keyword.Committed = refl
-free_space keyword.Acknowledged = refl
-free_space keyword.Differ = refl
-free_space keyword.Restart = refl
-free_space keyword.Wait = refl
-free_space keyword.Asked = refl
-free_space keyword.Turn = refl
-
-free_newline : (k : Keyword) → is_free newline (keyword_text k) ≡ true
-free_newline keyword.Primary = refl
-free_newline keyword.Secondary = refl
-free_newline keyword.Client = refl
-free_newline keyword.ToSecondary = refl
-free_newline keyword.ToPrimary = refl
-free_newline keyword.Stop = refl
-free_newline keyword.OfPrimary = refl
-free_newline keyword.OfSecondary = refl
-free_newline keyword.Report = refl
-free_newline keyword.Ask = refl
-free_newline keyword.Answered = refl
-free_newline keyword.Absent = refl
-free_newline keyword.Arp = refl
-free_newline keyword.Drop = refl
-free_newline keyword.Full = refl
-free_newline keyword.Lost = refl
-free_newline keyword.Mark = refl
-free_newline keyword.Captured = refl
-free_newline keyword.Committed = refl
-free_newline keyword.Acknowledged = refl
-free_newline keyword.Differ = refl
-free_newline keyword.Restart = refl
-free_newline keyword.Wait = refl
-free_newline keyword.Asked = refl
-free_newline keyword.Turn = refl
+-- a keyword has neither
+free_keyword : (k : Keyword) → (is_free space (keyword_text k) ≡ true) × (is_free newline (keyword_text k) ≡ true)
+free_keyword keyword.Primary = (refl, refl)
+free_keyword keyword.Secondary = (refl, refl)
+free_keyword keyword.Client = (refl, refl)
+free_keyword keyword.ToSecondary = (refl, refl)
+free_keyword keyword.ToPrimary = (refl, refl)
+free_keyword keyword.Stop = (refl, refl)
+free_keyword keyword.OfPrimary = (refl, refl)
+free_keyword keyword.OfSecondary = (refl, refl)
+free_keyword keyword.Report = (refl, refl)
+free_keyword keyword.Ask = (refl, refl)
+free_keyword keyword.Answered = (refl, refl)
+free_keyword keyword.Absent = (refl, refl)
+free_keyword keyword.Arp = (refl, refl)
+free_keyword keyword.Drop = (refl, refl)
+free_keyword keyword.Full = (refl, refl)
+free_keyword keyword.Lost = (refl, refl)
+free_keyword keyword.Mark = (refl, refl)
+free_keyword keyword.Captured = (refl, refl)
+free_keyword keyword.Committed = (refl, refl)
+free_keyword keyword.Acknowledged = (refl, refl)
+free_keyword keyword.Differ = (refl, refl)
+free_keyword keyword.Restart = (refl, refl)
+free_keyword keyword.Wait = (refl, refl)
+free_keyword keyword.Asked = (refl, refl)
+free_keyword keyword.Turn = (refl, refl)
 
 -- ---- one place
 
@@ -164,8 +138,8 @@ place_written : (place : Place) (k : ℕ) (ns : List ℕ) → is_bounded place �
 place_written (Word keyword) k ns b h = record {
   read = (bytes_eq-Decides (keyword_text keyword) (keyword_text keyword)).1 refl;
   numbers = refl;
-  no_space = free_space keyword;
-  no_newline = free_newline keyword;
+  no_space = (free_keyword keyword).0;
+  no_newline = (free_keyword keyword).1;
 }
 place_written (Number low high) k ns b h =
     let n = get_or ns k 0 in

@@ -100,7 +100,7 @@ first_bad_after forms earlier (row ∷ rows) =
 unfoldable pub first_bad : List Form → List ℕ → Option BadLine
 first_bad forms text = first_bad_after forms [] (rows_of text)
 
--- what a fault says of the first bad line; of want of memory nothing is said
+-- what a fault says of the first bad line; of running out of memory nothing is said
 abbrev pub IsFault : LineFault → Option BadLine → Type 0
 IsFault (fault.Bad line why) bad = bad ≡ Some (record { line = line; why = why })
 IsFault fault.NoMemory bad = Unit {0}

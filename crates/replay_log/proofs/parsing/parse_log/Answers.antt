@@ -2,11 +2,10 @@
 use Rattle.std.proofs.Common.{◌≡◌, List, subst, ◌∙◌, rules}
 use Rattle.replay_log.specs.Forms.{log_forms}
 use Rattle.replay_log.specs.Texts.{IsText, log_items}
-use Rattle.replay_log.specs.Cases.{first_bad, IsFault}
 use Rattle.replay_log.specs.declared.causes.LineFault.TheVariants as fault
 use Rattle.replay_log.specs.declared.forms.Form.{Form}
 use Rattle.replay_log.proofs.GatheringLemmas.{kinds_of_log, same_text}
-use Rattle.replay_log.proofs.LawLemmas.{no_fault, one_log}
+use Rattle.replay_log.proofs.LawLemmas.{no_fault_given, one_log}
 use Rattle.replay_log.proofs.parsing.parse_log.Goals as goal
 
 pub records_in-requires-clause-kinds : goal.records_in-requires-clause-kinds
@@ -18,17 +17,12 @@ records_in-requires-clause-kinds c =
 
 pub returns-clause-each : goal.returns-clause-each
 returns-clause-each c = λ all good.
-    let items = c.in_ok-items.items.items in
-    let read : IsText log_forms items c.args.text.now = subst (λ
-    (forms : List Form). IsText forms items c.args.text.now) c.log_forms.ensures c.in_ok-items.ensures.ok in
     one_log c.args.text.now c.in_ok-records.records.items all
-    (same_text log_forms items (log_items c.in_ok-records.records.items) c.args.text.now (c.in_ok-records.ensures ∙
-    c.deref.ensures.value) read) good
+    (same_text log_forms _ c.in_ok-items.items.items (log_items c.in_ok-records.records.items) c.args.text.now
+    c.log_forms.ensures (λ _. c.in_ok-records.ensures ∙ c.deref.ensures.value) c.in_ok-items.ensures.ok) good
 
 pub returns-in_err-items-clause-each : goal.returns-in_err-items-clause-each
 returns-in_err-items-clause-each c = λ all good.
-    let e = c.in_err-items.field-0.0 in
-    let bad : IsFault e (first_bad log_forms c.args.text.now) = subst (λ (forms : List Form). IsFault e
-    (first_bad forms c.args.text.now)) c.log_forms.ensures c.in_err-items.ensures.bad in
-    let same : e ≡ fault.NoMemory = no_fault log_forms (log_items all) c.args.text.now e good bad in
+    let same : c.in_err-items.field-0.0 ≡ fault.NoMemory = no_fault_given log_forms _ (log_items all) c.args.text.now
+    c.in_err-items.field-0.0 c.log_forms.ensures good c.in_err-items.ensures.bad in
     let h = c.from_residual.ensures in search rules
