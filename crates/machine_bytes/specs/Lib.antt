@@ -1,0 +1,4 @@
+pub mod Laws
+pub mod Legal
+pub mod Reading
+pub mod Spelling
