@@ -1,6 +1,6 @@
 #!/usr/bin/env bash
-# Runs the built `colo` on what the stored run doesn't show: a status other than 0, a demo image, and a C program under a
-# rising clock, whose memory is checked afterwards. Where a tool is missing, one line says what was passed over.
+# Runs the built `colo` on what the stored run doesn't show: a status other than 0, a demo image, and two C programs, one
+# whose memory is checked afterwards and one whose disk is. Where a tool is missing, one line says what was passed over.
 # COLO names the program `colo`, if it is not the one built in crates/colo.
 set -eu
 cd "$(dirname "$0")"
@@ -30,15 +30,37 @@ ends 0 "bytes 88" image mute out/mute.elf
 ends 7 "write failed" image mute missing/mute.elf
 echo "statuses and the demo image: as they must be"
 
-compiler=riscv64-unknown-elf-gcc
-if ! command -v "$compiler" > /dev/null; then
-    echo "skipped: the C program, since there is no $compiler (Debian's gcc-riscv64-unknown-elf)"
+# build OUT SOURCE: the program with its start code, by GCC or by clang and lld
+build() {
+    if command -v riscv64-unknown-elf-gcc > /dev/null; then
+        riscv64-unknown-elf-gcc -O2 -march=rv32ima_zicsr_zifencei -mabi=ilp32 -mstrict-align -ffreestanding -nostdlib \
+            -T link.ld -o "$1" start.S "$2"
+    else
+        clang --target=riscv32-unknown-elf -O2 -march=rv32ima -mabi=ilp32 -mno-relax -ffreestanding -nostdlib \
+            -fuse-ld=lld -T link.ld -o "$1" start.S "$2"
+    fi
+}
+
+if ! command -v riscv64-unknown-elf-gcc > /dev/null && ! { command -v clang && command -v ld.lld; } > /dev/null; then
+    echo "skipped: the C programs, since there is neither riscv64-unknown-elf-gcc (Debian's gcc-riscv64-unknown-elf)" \
+        "nor clang with lld"
     exit 0
 fi
-"$compiler" -O2 -march=rv32ima_zicsr_zifencei -mabi=ilp32 -mstrict-align -ffreestanding -nostdlib \
-    -T link.ld -o out/work.elf start.S work.c
-head -c 512 /dev/zero > out/disk
 : > out/client
+
+build out/work.elf work.c
+head -c 512 /dev/zero > out/disk
 for _ in $(seq 40); do echo "P 250 0 0 10000"; done > out/schedule
 "$colo" replay out/work.elf out/disk out/client out/schedule out/run
 python3 check.py out/run.ram
+
+build out/devices.elf devices.c
+head -c 2048 /dev/zero > out/disk
+for _ in $(seq 200); do echo "P 250 1 4 2000"; done > out/schedule
+status=0
+"$colo" replay out/devices.elf out/disk out/client out/schedule out/devices || status=$?
+if [ "$status" -eq 9 ]; then
+    echo "skipped: the program that drives both devices, since this colo has none"
+else
+    python3 check_devices.py out/devices.disk
+fi
