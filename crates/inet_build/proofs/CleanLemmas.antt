@@ -1,33 +1,5 @@
 -- A segment with cleaned options.
-use Rattle.std.proofs.Common.{
-  ◌≡◌,
-  ℕ,
-  ◌+◌,
-  ◌-◌,
-  ◌*◌,
-  ◌/◌,
-  ◌<◌,
-  ◌≤◌,
-  Bool,
-  true,
-  false,
-  cond,
-  ◌&&◌,
-  List,
-  ◌++◌,
-  length,
-  get_or,
-  take,
-  drop,
-  Some,
-  refl,
-  ap,
-  sym,
-  ◌∙◌,
-  arith,
-  subst,
-  ⊎_elim,
-}
+use Rattle.std.proofs.Common.{◌≡◌, ℕ, ◌+◌, ◌-◌, ◌*◌, ◌/◌, ◌<◌, ◌≤◌, Bool, true, false, cond, ◌&&◌, List, ◌++◌, length, get_or, take, drop, Some, refl, ap, sym, ◌∙◌, arith, subst, ⊎_elim}
 use Rattle.std.proofs.lemmas.Bool.{and_right, cases_Bool}
 use Rattle.std.proofs.lemmas.List.{take-append-drop}
 use Rattle.std.specs.List.{slice_range}
@@ -41,26 +13,9 @@ use Rattle.inet_frame.specs.Place.{be32_at, header_end, datagram_end, data_offse
 use Rattle.inet_frame.proofs.ByteLemmas.{AreBytes-range}
 use Rattle.inet_frame.proofs.FrameLemmas.{tcp_in_segment}
 use Rattle.inet_build.proofs.OptionLemmas.{length-clean_options, clean_is_clean, clean_same, AreBytes-clean_options}
-use Rattle.inet_build.proofs.EditLemmas.{
-  Edited,
-  places,
-  same_fields,
-  checksum_keeps,
-  edited_segment,
-  edited_fields,
-  same_header_end,
-  checksum_before,
-  checksum_after,
-  AreBytes-overwrite,
-  AreBytes-update_checksum,
-}
+use Rattle.inet_build.proofs.EditLemmas.{Edited, places, same_fields, checksum_keeps, edited_segment, edited_fields, same_header_end, checksum_before, checksum_after, AreBytes-overwrite, AreBytes-update_checksum}
 use Rattle.shared_definitions.specs.Overwrite.{overwrite}
-use Rattle.shared_definitions.proofs.OverwriteLemmas.{
-  length-overwrite,
-  overwrite_before,
-  overwrite_after,
-  overwrite_range,
-}
+use Rattle.shared_definitions.proofs.OverwriteLemmas.{length-overwrite, overwrite_before, overwrite_after, overwrite_range}
 use Rattle.shared_definitions.proofs.RangeLemmas.{range_same, length-range}
 use Rattle.inet_build.specs.Edit.{update_checksum, options_in, needs_cleaning, clean_syn, clean_syn_fields}
 use Rattle.inet_build.specs.Options.{has_unwanted, clean_options}

@@ -1,31 +1,5 @@
 -- An edited segment is a segment, with all else as it was.
-use Rattle.std.proofs.Common.{
-  ◌≡◌,
-  ℕ,
-  ◌+◌,
-  ◌-◌,
-  ◌*◌,
-  ◌/◌,
-  ◌%◌,
-  ◌^◌,
-  ◌<◌,
-  ◌≤◌,
-  List,
-  [],
-  ◌∷◌,
-  ◌++◌,
-  length,
-  take,
-  drop,
-  get_or,
-  Some,
-  refl,
-  ap,
-  sym,
-  ◌∙◌,
-  arith,
-  ⊎_elim,
-}
+use Rattle.std.proofs.Common.{◌≡◌, ℕ, ◌+◌, ◌-◌, ◌*◌, ◌/◌, ◌%◌, ◌^◌, ◌<◌, ◌≤◌, List, [], ◌∷◌, ◌++◌, length, take, drop, get_or, Some, refl, ap, sym, ◌∙◌, arith, ⊎_elim}
 use Rattle.std.proofs.lemmas.Bool.{cases_lt}
 use Rattle.std.proofs.lemmas.List.{ext_get_or}
 use Rattle.std.specs.Int.{w16, w32, to_be_bytes}
@@ -40,16 +14,14 @@ use Rattle.inet_frame.proofs.ByteLemmas.{bytes_from, AreBytes-append, AreBytes-d
 use Rattle.inet_frame.proofs.SumLemmas.{ones_sum_fits, ones_add_fits, ones_sum_append, ones_sum_closed}
 use Rattle.inet_frame.proofs.FrameLemmas.{tcp_in_segment}
 use Rattle.shared_definitions.specs.Overwrite.{overwrite}
-use Rattle.shared_definitions.proofs.OverwriteLemmas.{
-  length-overwrite,
-  overwrite_before,
-  overwrite_within,
-  overwrite_after,
-  overwrite_range,
-  overwrite_twice,
-}
+use Rattle.shared_definitions.proofs.OverwriteLemmas.{length-overwrite, overwrite_before, overwrite_within, overwrite_after, overwrite_range, overwrite_twice}
 use Rattle.shared_definitions.proofs.RangeLemmas.{range_same, range_split, length-range}
 use Rattle.inet_build.specs.Edit.{sum_between, with_zero_checksum, update_checksum, shift_ack, shift_ack_fields}
+
+-- a fact of one byte, and those of the bytes after it
+infixr 5 ◌&◌
+pub ◌&◌ : {A B : Type 0} → A → B → A × B
+a & b = (a, b)
 
 -- what an edit after the sequence number leaves: the length, each byte up to there, and the header's length
 pub record KeepsPlaces (b c : List ℕ) : Type 0 where
@@ -148,7 +120,7 @@ two_bytes n = bytes_from (n / 256 % 256 ∷ n % 256 ∷ []) (omega arith, (omega
 pub four_bytes : (n : ℕ) → AreBytes (to_be_bytes w32 n)
 four_bytes n =
     bytes_from (n / 256 ^ 3 % 256 ∷ n / 256 ^ 2 % 256 ∷ n / 256 ^ 1 % 256 ∷ n % 256 ∷ [])
-    (omega arith, (omega arith, (omega arith, (omega arith, tt))))
+    ((omega arith) & (omega arith) & (omega arith) & (omega arith) & tt)
 
 pub AreBytes-update_checksum : (b : List ℕ) (h e : ℕ) → AreBytes b → AreBytes (update_checksum b h e)
 unfolding update_checksum
@@ -379,6 +351,23 @@ four_read b by s =
     let small : n < 2 ^ 32 = omega arith in
     omega arith
 
+-- the bytes after the acknowledgement, but for the checksum, stay
+ack_between : (b : List ℕ) (by : ℕ) → IsSegment b → (i : ℕ) → header_end b + 12 ≤ i → i < header_end b + 16 →
+    get_or (with_new_ack b by) i 0 ≡ get_or b i 0
+ack_between b by s i ge lt =
+    let p = places b s in
+    let wlen = length-overwrite b (header_end b + 8) (raised_ack b by) (omega arith) in
+    checksum_before (with_ack b by) (header_end b) (datagram_end b) i (omega arith) lt
+    ∙ overwrite_after b (header_end b + 8) (raised_ack b by) i (omega arith) (omega arith)
+
+ack_after : (b : List ℕ) (by : ℕ) → IsSegment b → (i : ℕ) → header_end b + 18 ≤ i →
+    get_or (with_new_ack b by) i 0 ≡ get_or b i 0
+ack_after b by s i ge =
+    let p = places b s in
+    let wlen = length-overwrite b (header_end b + 8) (raised_ack b by) (omega arith) in
+    checksum_after (with_ack b by) (header_end b) (datagram_end b) i (omega arith) ge
+    ∙ overwrite_after b (header_end b + 8) (raised_ack b by) i (omega arith) (omega arith)
+
 -- a shifted segment says what the segment said, but for its acknowledgement
 pub shift_ack_parses : (b : List ℕ) (by : ℕ) → IsSegment b → AreBytes b →
     tcp_in (shift_ack b by) ≡ Some (shift_ack_fields by (fields_in b))
@@ -390,25 +379,17 @@ shift_ack_parses b by s bytes =
     let k = checksum_keeps b (with_ack b by) s edit in
     let is = edited_segment b (with_ack b by) s edit (AreBytes-overwrite b (header_end b + 8) (raised_ack b by) bytes
     (four_bytes ((be32_at b (header_end b + 8) + by) % 2 ^ 32))) in
-    let wlen = length-overwrite b (header_end b + 8) (raised_ack b by) (omega arith) in
-    let between : (i : ℕ) → header_end b + 12 ≤ i → i < header_end b + 16 →
-    get_or (with_new_ack b by) i 0 ≡ get_or b i 0 =
-    λ i ge lt. checksum_before (with_ack b by) (header_end b) (datagram_end b) i (omega arith) lt
-    ∙ overwrite_after b (header_end b + 8) (raised_ack b by) i (omega arith) (omega arith) in
-    let after : (i : ℕ) → header_end b + 18 ≤ i → get_or (with_new_ack b by) i 0 ≡ get_or b i 0 =
-    λ i ge. checksum_after (with_ack b by) (header_end b) (datagram_end b) i (omega arith) ge
-    ∙ overwrite_after b (header_end b + 8) (raised_ack b by) i (omega arith) (omega arith) in
     tcp_in_segment (with_new_ack b by) is
     ∙ ap (λ (t : TcpFields). Some t)
     (edited_fields b (with_ack b by) s edit
-    ∙ same_fields b (with_new_ack b by) s k between (shift_ack_fields by (fields_in b)).ack
+    ∙ same_fields b (with_new_ack b by) s k (ack_between b by s) (shift_ack_fields by (fields_in b)).ack
     (slice_range b (header_end b + 20) (header_end b + data_offset b (header_end b)))
     (four_read b by s)
     (ap (λ (n : ℕ). slice_range (with_new_ack b by) (header_end b + 20) (header_end b + n)) (ap (λ (n : ℕ). 4 *
     (n / 16)) k.offset)
     ∙ range_same (with_new_ack b by) b (header_end b + 20) (header_end b + data_offset b (header_end b)) k.len
-    (λ i ge lt. after i (omega arith)))
-    (λ i ge. after i (omega arith)))
+    (λ i ge lt. ack_after b by s i (omega arith)))
+    (λ i ge. ack_after b by s i (omega arith)))
 
 -- a checksum recomputed depends on no checksum
 checksum_same : (c d : List ℕ) (h e : ℕ) → h + 18 ≤ length c → length c ≡ length d → ((i : ℕ) → i < h + 16 →
@@ -481,14 +462,6 @@ shift_ack_twice b by more s =
     let k = checksum_keeps b (with_ack b by) s edit in
     let he = same_header_end b (with_new_ack b by) k in
     let de = same_datagram_end b (with_new_ack b by) k in
-    let wlen = length-overwrite b (header_end b + 8) (raised_ack b by) (omega arith) in
-    let between : (i : ℕ) → header_end b + 12 ≤ i → i < header_end b + 16 →
-    get_or (with_new_ack b by) i 0 ≡ get_or b i 0 =
-    λ i ge lt. checksum_before (with_ack b by) (header_end b) (datagram_end b) i (omega arith) lt
-    ∙ overwrite_after b (header_end b + 8) (raised_ack b by) i (omega arith) (omega arith) in
-    let after : (i : ℕ) → header_end b + 18 ≤ i → get_or (with_new_ack b by) i 0 ≡ get_or b i 0 =
-    λ i ge. checksum_after (with_ack b by) (header_end b) (datagram_end b) i (omega arith) ge
-    ∙ overwrite_after b (header_end b + 8) (raised_ack b by) i (omega arith) (omega arith) in
     let sum : (be32_at (with_new_ack b by) (header_end b + 8) + more) % 2 ^ 32
     ≡ (be32_at b (header_end b + 8) + (by + more)) % 2 ^ 32 =
     ap (λ (n : ℕ). (n + more) % 2 ^ 32) (four_read b by s) ∙ omega arith in
@@ -498,7 +471,7 @@ shift_ack_twice b by more s =
     (header_end b) e) de
     ∙ (ap (λ (n : ℕ). shift_at (with_new_ack b by) n (header_end b) (datagram_end b)) sum
     ∙ shift_again b (with_new_ack b by) ((be32_at b (header_end b + 8) + (by + more)) % 2 ^ 32) (header_end b)
-    (datagram_end b) (omega arith) k.len k.front between after))
+    (datagram_end b) (omega arith) k.len k.front (ack_between b by s) (ack_after b by s)))
 
 pub AreBytes-shift_ack : (b : List ℕ) (by : ℕ) → AreBytes b → AreBytes (shift_ack b by)
 unfolding shift_ack

@@ -10,7 +10,7 @@ use Rattle.inet_frame.specs.Place.{be32_at}
 use Rattle.inet_frame.proofs.ByteLemmas.{bytes_from, AreBytes-append, AreBytes-range}
 use Rattle.inet_frame.proofs.FrameLemmas.{tcp_in_facts}
 use Rattle.inet_build.proofs.CleanLemmas.{clean_syn_parses, length-clean_syn}
-use Rattle.inet_build.proofs.EditLemmas.{shift_ack_parses, length-shift_ack, four_bytes}
+use Rattle.inet_build.proofs.EditLemmas.{◌&◌, shift_ack_parses, length-shift_ack, four_bytes}
 use Rattle.inet_build.specs.Edit.{shift_ack, clean_syn, shift_ack_fields, clean_syn_fields}
 
 pub clean_keeps : (b : List ℕ) (t : TcpFields) → AreBytes b → tcp_in b ≡ Some t →
@@ -30,46 +30,13 @@ shift_keeps b by t bytes is =
     )
 
 mac_bytes : AreBytes guest_mac
-mac_bytes = bytes_from guest_mac (
-  omega arith,
-  (
-    omega arith,
-    (
-      omega arith,
-      (
-        omega arith,
-        (
-          omega arith,
-          (
-            omega arith,
-            tt,
-          ),
-        ),
-      ),
-    ),
-  ),
-)
+mac_bytes = bytes_from guest_mac
+    ((omega arith) & (omega arith) & (omega arith) & (omega arith) & (omega arith) & (omega arith) & tt)
 
 head_bytes : AreBytes reply_head
-head_bytes = bytes_from reply_head (
-  omega arith,
-  (
-    omega arith,
-    (
-      omega arith,
-      (
-        omega arith,
-        (
-          omega arith,
-          (
-            omega arith,
-            (omega arith, (omega arith, (omega arith, (omega arith, tt)))),
-          ),
-        ),
-      ),
-    ),
-  ),
-)
+head_bytes = bytes_from reply_head
+    ((omega arith) & (omega arith) & (omega arith) & (omega arith) & (omega arith) &
+    (omega arith) & (omega arith) & (omega arith) & (omega arith) & (omega arith) & tt)
 
 -- the reply's parts, one after another
 pub reply_bytes_are : (b : List ℕ) → AreBytes b → AreBytes (reply_bytes (arp_fields b) guest_mac)

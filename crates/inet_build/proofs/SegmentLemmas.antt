@@ -13,25 +13,8 @@ use Rattle.inet_frame.proofs.ByteLemmas.{EachByte, bytes_from, AreBytes-append}
 use Rattle.inet_frame.proofs.FieldLemmas.{six_then}
 use Rattle.inet_frame.proofs.SumLemmas.{ones_sum_fits, ones_add_fits, ones_sum_closed}
 use Rattle.inet_frame.proofs.FrameLemmas.{tcp_in_segment}
-use Rattle.inet_build.proofs.EditLemmas.{two_bytes}
-use Rattle.inet_build.specs.Segment.{
-  ipv4_type,
-  ethernet_header,
-  addresses,
-  ipv4_header,
-  ipv4_checksum,
-  mss_option,
-  header_words,
-  tcp_header,
-  tcp_bytes,
-  tcp_len,
-  tcp_checksum,
-  segment_bytes,
-  fields_of,
-  MssFits,
-  HeaderFits,
-  IsBuildable,
-}
+use Rattle.inet_build.proofs.EditLemmas.{◌&◌, two_bytes}
+use Rattle.inet_build.specs.Segment.{ipv4_type, ethernet_header, addresses, ipv4_header, ipv4_checksum, mss_option, header_words, tcp_header, tcp_bytes, tcp_len, tcp_checksum, segment_bytes, fields_of, MssFits, HeaderFits, IsBuildable}
 use Rattle.inet_build.specs.declared.fields.Segment.{Segment}
 
 option_facts : (mss : Option ℕ) → (length (mss_option mss) + 20
@@ -41,7 +24,7 @@ option_facts (Some m) = (omega arith, omega arith, omega arith)
 
 option_bytes : (mss : Option ℕ) → EachByte (mss_option mss)
 option_bytes None = tt
-option_bytes (Some m) = (omega arith, (omega arith, (omega arith, (omega arith, tt))))
+option_bytes (Some m) = (omega arith) & (omega arith) & (omega arith) & (omega arith) & tt
 
 -- the frame with any numbers as its checksums
 abbrev whole : List ℕ → Segment → List ℕ → ℕ → ℕ → List ℕ
@@ -136,46 +119,14 @@ abbrev ipv4_front : ℕ → List ℕ
 ipv4_front total = 0x45 ∷ 0 ∷ total / 256 % 256 ∷ total % 256 ∷ 0 ∷ 0 ∷ 0x40 ∷ 0 ∷ 64 ∷ 6 ∷ []
 
 ipv4_front_bytes : (total : ℕ) → EachByte (ipv4_front total)
-ipv4_front_bytes total = (
-  omega arith,
-  (
-    omega arith,
-    (
-      omega arith,
-      (
-        omega arith,
-        (
-          omega arith,
-          (
-            omega arith,
-            (omega arith, (omega arith, (omega arith, (omega arith, tt)))),
-          ),
-        ),
-      ),
-    ),
-  ),
-)
+ipv4_front_bytes total =
+    (omega arith) & (omega arith) & (omega arith) & (omega arith) & (omega arith) & (omega arith) & (omega arith) &
+    (omega arith) & (omega arith) & (omega arith) & tt
 
 address_bytes : (client : ℕ) → EachByte (addresses client)
-address_bytes client = (
-  omega arith,
-  (
-    omega arith,
-    (
-      omega arith,
-      (
-        omega arith,
-        (
-          omega arith,
-          (
-            omega arith,
-            (omega arith, (omega arith, tt)),
-          ),
-        ),
-      ),
-    ),
-  ),
-)
+address_bytes client =
+    (omega arith) & (omega arith) & (omega arith) & (omega arith) & (omega arith) & (omega arith) & (omega arith) &
+    (omega arith) & tt
 
 header_closed : (client total : ℕ) → ones_sum 0 (ipv4_header client total (ipv4_checksum client total)) ≡ 65535
 unfolding ipv4_header
@@ -201,63 +152,16 @@ tcp_front s = to_be_bytes w16 s.tuple.guest ++ to_be_bytes w16 s.tuple.port ++ t
 
 tcp_front_bytes : (s : Segment) → s.flags < 256 → EachByte (tcp_front s)
 tcp_front_bytes s flags =
-    let facts = option_facts s.mss in (
-      omega arith,
-      (
-        omega arith,
-        (
-          omega arith,
-          (
-            omega arith,
-            (
-              omega arith,
-              (
-                omega arith,
-                (
-                  omega arith,
-                  (
-                    omega arith,
-                    (
-                      omega arith,
-                      (
-                        omega arith,
-                        (
-                          omega arith,
-                          (
-                            omega arith,
-                            (
-                              omega arith,
-                              (
-                                omega arith,
-                                (
-                                  omega arith,
-                                  (
-                                    omega arith,
-                                    tt,
-                                  ),
-                                ),
-                              ),
-                            ),
-                          ),
-                        ),
-                      ),
-                    ),
-                  ),
-                ),
-              ),
-            ),
-          ),
-        ),
-      ),
-    )
+    let facts = option_facts s.mss in
+    (omega arith) & (omega arith) & (omega arith) & (omega arith) & (omega arith) & (omega arith) & (omega arith) &
+    (omega arith) & (omega arith) & (omega arith) & (omega arith) & (omega arith) & (omega arith) & (omega arith) &
+    (omega arith) & (omega arith) & tt
 
 -- the bytes after the checksum: no urgent pointer, the option and the payload
 rest_bytes : (s : Segment) (payload : List ℕ) → AreBytes payload → AreBytes (0 ∷ 0 ∷ mss_option s.mss ++ payload)
 rest_bytes s payload bytes =
-    AreBytes-append (0 ∷ 0 ∷ mss_option s.mss) payload (bytes_from (0 ∷ 0 ∷ mss_option s.mss) (
-      omega arith,
-      (omega arith, option_bytes s.mss),
-    )) bytes
+    AreBytes-append (0 ∷ 0 ∷ mss_option s.mss) payload (bytes_from (0 ∷ 0 ∷ mss_option s.mss)
+    ((omega arith) & (omega arith) & option_bytes s.mss)) bytes
 
 tcp_closed : (s : Segment) (payload : List ℕ) → length payload ≤ 536 → s.flags < 256 → AreBytes payload →
     ones_sum (pseudo_sum (addresses s.tuple.addr) 6 (tcp_len s payload)) (tcp_bytes s payload

@@ -7,17 +7,18 @@ ghost use Rattle.inet_build.specs.Laws.{ReadsBack, IsOneSegment, BuildsBytes, Cl
 ///
 /// This is how a statement on a pair of machines gets from frames to the bytes of a connection: it
 /// names, for each released frame, the `Segment` and the payload that the frame is `segment_bytes`
-/// of. As building is one-to-one, these are the frame's own, so "the frame carries this byte at this
-/// offset" is said of the payload, and no frame of the model has to be taken apart again. That the
-/// payload is bytes is part of `IsBuildable`, which `segment` ensures of all that it builds.
+/// of. As building is one-to-one, these are the frame's own, so "the frame carries this byte at
+/// this offset" is said of the payload, and no frame of the model has to be taken apart again.
+/// That the payload is bytes is part of `IsBuildable`, which `segment` ensures of all that it
+/// builds.
 pub fn segments_read_back()
     ensures reads { ReadsBack }
     ensures once { IsOneSegment }
     ensures bytes { BuildsBytes }
 {}
 
-/// An edited frame is bytes as the frame was, of the same length, and it still parses, with all that
-/// the edit does not name unchanged. The reply to an ARP request is bytes too.
+/// An edited frame is bytes as the frame was, of the same length, and it still parses, with all
+/// that the edit does not name unchanged. The reply to an ARP request is bytes too.
 pub fn edits_keep_the_rest()
     ensures clean { CleansOptions }
     ensures clean_bytes { CleansBytes }

@@ -1,28 +1,5 @@
 -- What is kept of each client after an opening and after a thinning.
-use Rattle.std.proofs.Common.{
-  ◌≡◌,
-  ℕ,
-  Bool,
-  true,
-  false,
-  ◌&&◌,
-  ◌==◌,
-  cond,
-  List,
-  [],
-  ◌∷◌,
-  ◌++◌,
-  Option,
-  None,
-  Some,
-  fold,
-  is_some,
-  unwrap_or,
-  refl,
-  sym,
-  ap,
-  ◌∙◌,
-}
+use Rattle.std.proofs.Common.{◌≡◌, ℕ, Bool, true, false, ◌==◌, cond, List, [], ◌∷◌, ◌++◌, Option, None, Some, fold, is_some, unwrap_or, refl, sym, ap, ◌∙◌}
 use Rattle.std.specs.Map.{lookup}
 use Rattle.std.proofs.lemmas.Bool.{and_parts, eqb-true, eq-eqb}
 use Rattle.std.proofs.lemmas.Map.Entries.{lookup-filter-keys}
@@ -31,31 +8,9 @@ use Rattle.tcp_track.specs.Segments.{same_tuple}
 use Rattle.tcp_track.specs.Stands.{is_of_client}
 use Rattle.tcp_track.specs.Tracking.{same_incarnation, current_at}
 use Rattle.tcp_track.specs.declared.openings.Incarnation.{Incarnation}
-use Rattle.seq_rewriter.specs.Kept.{
-  KeptNumbers,
-  Event,
-  opened,
-  thinned,
-  numbers_after,
-  kept_numbers,
-  number_of,
-  lookup_number,
-  keep_number,
-  is_current,
-}
+use Rattle.tcp_track.proofs.TupleLemmas.{same_tuple-refl, same_tuple-eq}
+use Rattle.seq_rewriter.specs.Kept.{KeptNumbers, Event, opened, thinned, numbers_after, kept_numbers, number_of, lookup_number, keep_number, is_current}
 use Rattle.seq_rewriter.specs.Laws.{OpeningKeepsFirst, OpeningKeepsOthers, ThinningKeepsCurrent}
-
-same_tuple-refl : (t : Tuple) → same_tuple t t ≡ true
-same_tuple-refl t = rw (eq-eqb t.addr t.addr refl, eq-eqb t.port t.port refl, eq-eqb t.guest t.guest refl) refl
-
-same_tuple-eq : (a b : Tuple) → same_tuple a b ≡ true → a ≡ b
-same_tuple-eq a b h =
-    let parts = and_parts (a.addr == b.addr) (a.port == b.port && a.guest == b.guest) h in
-    let rest = and_parts (a.port == b.port) (a.guest == b.guest) parts.1 in
-    let addr = eqb-true a.addr b.addr parts.0 in
-    let port = eqb-true a.port b.port rest.0 in
-    let guest = eqb-true a.guest b.guest rest.1 in
-    λ i. record { addr = addr i; port = port i; guest = guest i }
 
 same_incarnation-eq : (a b : Incarnation) → same_incarnation a b ≡ true → a ≡ b
 same_incarnation-eq a b h =
