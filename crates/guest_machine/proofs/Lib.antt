@@ -1,0 +1,6 @@
+pub mod BootLemmas
+pub mod KindLemmas
+pub mod PageLemmas
+pub mod SectorLemmas
+pub mod StateLemmas
+pub mod TurnLemmas

@@ -1,0 +1,4 @@
+pub mod Boot
+pub mod Guest
+pub mod Kinds
+pub mod Turn
