@@ -1,37 +1,5 @@
 -- What is read of a statement is what the grammar says.
-use Rattle.std.proofs.Common.{
-  ◌≡◌,
-  ℕ,
-  ◌%◌,
-  ◌^◌,
-  ◌-◌,
-  ◌<◌,
-  Bool,
-  true,
-  false,
-  cond,
-  ℤ,
-  List,
-  [],
-  ◌∷◌,
-  ◌++◌,
-  length,
-  Option,
-  Some,
-  None,
-  Result,
-  Ok,
-  Err,
-  MatchOption,
-  eqb,
-  refl,
-  sym,
-  ap,
-  subst,
-  ◌∙◌,
-  inl,
-  inr,
-}
+use Rattle.std.proofs.Common.{◌≡◌, ℕ, ◌%◌, ◌^◌, ◌-◌, ◌<◌, Bool, true, false, cond, ℤ, List, [], ◌∷◌, ◌++◌, length, Option, Some, None, Result, Ok, Err, MatchOption, eqb, refl, sym, ap, subst, ◌∙◌, inl, inr}
 use Rattle.std.specs.Prelude.{codes}
 use Rattle.std.specs.Bool.{OnTrue}
 use Rattle.std.specs.Str.{bytes_eq}
@@ -48,21 +16,7 @@ use Rattle.rv_forms.specs.declared.kinds.Operands.{Operands}
 use Rattle.rv_forms.specs.declared.kinds.Kind.{Kind}
 use Rattle.rv_forms.specs.declared.kinds.Kind.TheVariants as kinds
 use Rattle.rv_forms.specs.declared.kinds.Syntax.{Syntax}
-use Rattle.rv_forms.specs.declared.kinds.Syntax.TheVariants.{
-  UType,
-  JType,
-  IType,
-  ShiftType,
-  LoadType,
-  SType,
-  BType,
-  RType,
-  CsrType,
-  CsrNumberType,
-  Exact,
-  LrType,
-  AmoType,
-}
+use Rattle.rv_forms.specs.declared.kinds.Syntax.TheVariants.{UType, JType, IType, ShiftType, LoadType, SType, BType, RType, CsrType, CsrNumberType, Exact, LrType, AmoType}
 use Rattle.rv_forms.specs.Forms.{kinds_of, is_ordered, operands_of, word_of}
 use Rattle.rv_forms.specs.Mnemonics.{Mnemonic}
 use Rattle.rv_forms.specs.Names.{Name, name_text, name_of}
@@ -73,52 +27,8 @@ use Rattle.rv_asm.specs.declared.fault.Why.{Why}
 use Rattle.rv_asm.specs.declared.fault.Why.TheVariants.{Word, Range}
 use Rattle.rv_asm.specs.declared.reading.Number.{Number}
 use Rattle.rv_asm.specs.Faults.{◌>>=◌}
-use Rattle.rv_asm.specs.Grammar.{
-  IsSignedText,
-  IsUnsignedText,
-  IsTargetText,
-  IsWordText,
-  IsValueText,
-  IsBracketText,
-  IsAddressText,
-  IsOperandText,
-  AreOperandTexts,
-  IsStatementText,
-  IsInstruction,
-  IsData,
-  IsLoad,
-  IsStatement,
-}
-use Rattle.rv_asm.specs.Operands.{
-  register_or,
-  register,
-  value,
-  word,
-  even,
-  near,
-  place_or,
-  named_place,
-  distance,
-  address,
-  in_memory,
-  number_or,
-  label_target,
-  target,
-  label_value,
-  signed_number,
-  unsigned_number,
-  bracketed,
-  closed,
-  base_register,
-  address_parts,
-  word_number,
-  word_value,
-  operand,
-  after_comma,
-  next_operand,
-  finish,
-  operands,
-}
+use Rattle.rv_asm.specs.Grammar.{IsSignedText, IsUnsignedText, IsTargetText, IsWordText, IsValueText, IsBracketText, IsAddressText, IsOperandText, AreOperandTexts, IsStatementText, IsInstruction, IsData, IsLoad, IsStatement}
+use Rattle.rv_asm.specs.Operands.{register_or, register, value, word, even, near, place_or, named_place, distance, address, in_memory, number_or, label_target, target, label_value, signed_number, unsigned_number, bracketed, closed, base_register, address_parts, word_number, word_value, operand, after_comma, next_operand, finish, operands}
 use Rattle.rv_asm.specs.Reading.{number_within, register_of, is_label}
 use Rattle.rv_asm.specs.Refusals.{GoesOn}
 use Rattle.rv_asm.specs.Statements.{blank, load_words, data_words, li_words, instruction_words, statement}
@@ -432,147 +342,37 @@ kinds_found places here name text (kind ∷ more) f g P is e row =
 abbrev Read : (List ℕ → Option ℕ) → ℕ → List ℕ → List Kind → List ℕ → Operands → Operands → Type 0
 Read places here name kinds text f g = IsStatementText places here name kinds text g × (g.aq ≡ f.aq) × (g.rl ≡ f.rl)
 
+-- a text with the order bits as they were
+with_order : {P : Type 0} {p q : Bool} → P → P × (p ≡ p) × (q ≡ q)
+with_order h = (h, refl, refl)
+
 row_texts : (places : List ℕ → Option ℕ) (here : ℕ) (name text : List ℕ) (syntax : Syntax) (f : Operands) →
     RowTexts places here name (kinds_of syntax) text f (λ g. Read places here name (kinds_of syntax) text f g)
-row_texts places here name text UType f = λ rest e first more parts a ha b hb. (
-  (
-    rest,
-    e,
-    (
-      first,
-      more,
-      parts,
-      ha,
-      hb,
-    ),
-  ),
-  refl,
-  refl,
-)
-row_texts places here name text JType f = λ rest e first more parts a ha b hb. (
-  (
-    rest,
-    e,
-    (
-      first,
-      more,
-      parts,
-      ha,
-      hb,
-    ),
-  ),
-  refl,
-  refl,
-)
-row_texts places here name text LoadType f = λ rest e first more parts a ha b hb. (
-  (
-    rest,
-    e,
-    (
-      first,
-      more,
-      parts,
-      ha,
-      hb,
-    ),
-  ),
-  refl,
-  refl,
-)
-row_texts places here name text SType f = λ rest e first more parts a ha b hb. (
-  (
-    rest,
-    e,
-    (
-      first,
-      more,
-      parts,
-      ha,
-      hb,
-    ),
-  ),
-  refl,
-  refl,
-)
-row_texts places here name text LrType f = λ rest e first more parts a ha b hb. (
-  (
-    rest,
-    e,
-    (
-      first,
-      more,
-      parts,
-      ha,
-      hb,
-    ),
-  ),
-  refl,
-  refl,
-)
-row_texts places here name text Exact f = λ e. (e, refl, refl)
-row_texts places here name text IType f = λ rest e first more parts a ha second last others b hb d hd. (
-  (
-    rest,
-    e,
-    (first, more, parts, ha, (second, last, others, hb, hd)),
-  ),
-  refl,
-  refl,
-)
-row_texts places here name text ShiftType f = λ rest e first more parts a ha second last others b hb d hd. (
-  (
-    rest,
-    e,
-    (first, more, parts, ha, (second, last, others, hb, hd)),
-  ),
-  refl,
-  refl,
-)
-row_texts places here name text BType f = λ rest e first more parts a ha second last others b hb d hd. (
-  (
-    rest,
-    e,
-    (first, more, parts, ha, (second, last, others, hb, hd)),
-  ),
-  refl,
-  refl,
-)
-row_texts places here name text RType f = λ rest e first more parts a ha second last others b hb d hd. (
-  (
-    rest,
-    e,
-    (first, more, parts, ha, (second, last, others, hb, hd)),
-  ),
-  refl,
-  refl,
-)
-row_texts places here name text CsrType f = λ rest e first more parts a ha second last others b hb d hd. (
-  (
-    rest,
-    e,
-    (first, more, parts, ha, (second, last, others, hb, hd)),
-  ),
-  refl,
-  refl,
-)
-row_texts places here name text CsrNumberType f = λ rest e first more parts a ha second last others b hb d hd. (
-  (
-    rest,
-    e,
-    (first, more, parts, ha, (second, last, others, hb, hd)),
-  ),
-  refl,
-  refl,
-)
-row_texts places here name text AmoType f = λ rest e first more parts a ha second last others b hb d hd. (
-  (
-    rest,
-    e,
-    (first, more, parts, ha, (second, last, others, hb, hd)),
-  ),
-  refl,
-  refl,
-)
+row_texts places here name text UType f = λ rest e first more parts a ha b hb.
+    with_order (rest, e, (first, more, parts, ha, hb))
+row_texts places here name text JType f = λ rest e first more parts a ha b hb.
+    with_order (rest, e, (first, more, parts, ha, hb))
+row_texts places here name text LoadType f = λ rest e first more parts a ha b hb.
+    with_order (rest, e, (first, more, parts, ha, hb))
+row_texts places here name text SType f = λ rest e first more parts a ha b hb.
+    with_order (rest, e, (first, more, parts, ha, hb))
+row_texts places here name text LrType f = λ rest e first more parts a ha b hb.
+    with_order (rest, e, (first, more, parts, ha, hb))
+row_texts places here name text Exact f = λ e. with_order e
+row_texts places here name text IType f = λ rest e first more parts a ha second last others b hb d hd.
+    with_order (rest, e, (first, more, parts, ha, (second, last, others, hb, hd)))
+row_texts places here name text ShiftType f = λ rest e first more parts a ha second last others b hb d hd.
+    with_order (rest, e, (first, more, parts, ha, (second, last, others, hb, hd)))
+row_texts places here name text BType f = λ rest e first more parts a ha second last others b hb d hd.
+    with_order (rest, e, (first, more, parts, ha, (second, last, others, hb, hd)))
+row_texts places here name text RType f = λ rest e first more parts a ha second last others b hb d hd.
+    with_order (rest, e, (first, more, parts, ha, (second, last, others, hb, hd)))
+row_texts places here name text CsrType f = λ rest e first more parts a ha second last others b hb d hd.
+    with_order (rest, e, (first, more, parts, ha, (second, last, others, hb, hd)))
+row_texts places here name text CsrNumberType f = λ rest e first more parts a ha second last others b hb d hd.
+    with_order (rest, e, (first, more, parts, ha, (second, last, others, hb, hd)))
+row_texts places here name text AmoType f = λ rest e first more parts a ha second last others b hb d hd.
+    with_order (rest, e, (first, more, parts, ha, (second, last, others, hb, hd)))
 
 -- the operands that were read are within their ranges, whatever stood before them
 range_by : (places : List ℕ → Option ℕ) (here : ℕ) (text : List ℕ) (syntax : Syntax) (f g : Operands) →

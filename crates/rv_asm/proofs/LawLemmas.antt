@@ -142,8 +142,15 @@ is_text (Some m) word below e =
       line = is_line nowhere 0 name (kinds_of m.syntax) (text_by (Some m) word) f (name_bytes m (aq word)
           (rl word) found.0) (name_some m (aq word) (rl word) found.0) (statement_written nowhere 0 name
           (kinds_of m.syntax) f ranges);
-      means = λ places here. inl
-          (record { mnemonic = m; word = word; row = found.0; below = below; fits = eq-eqb _ _ found.1; only = refl; written = statement_written places here name (kinds_of m.syntax) f ranges });
+      means = λ places here. inl (record {
+        mnemonic = m;
+        word = word;
+        row = found.0;
+        below = below;
+        fits = eq-eqb _ _ found.1;
+        only = refl;
+        written = statement_written places here name (kinds_of m.syntax) f ranges;
+      });
     }
 
 text_is : (word : ℕ) → word < 2 ^ 32 → IsText (text_of word) word

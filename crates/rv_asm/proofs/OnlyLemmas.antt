@@ -1,31 +1,5 @@
 -- What the grammar says is read.
-use Rattle.std.proofs.Common.{
-  ◌≡◌,
-  ℕ,
-  ◌%◌,
-  ◌^◌,
-  ◌<◌,
-  Bool,
-  true,
-  false,
-  ℤ,
-  List,
-  [],
-  ◌∷◌,
-  ◌++◌,
-  Option,
-  Some,
-  None,
-  Ok,
-  bit_and,
-  subst,
-  refl,
-  sym,
-  ap,
-  ◌∙◌,
-  inl,
-  inr,
-}
+use Rattle.std.proofs.Common.{◌≡◌, ℕ, ◌%◌, ◌^◌, ◌<◌, Bool, true, false, ℤ, List, [], ◌∷◌, ◌++◌, Option, Some, None, Ok, bit_and, subst, refl, sym, ap, ◌∙◌, inl, inr}
 use Rattle.std.specs.Prelude.{codes, Contains}
 use Rattle.std.specs.Bool.{OnTrue, OnFalse}
 use Rattle.std.specs.Char.{is_ascii_alphanumeric}
@@ -40,70 +14,17 @@ use Rattle.rv_forms.specs.declared.kinds.Operands.{Operands}
 use Rattle.rv_forms.specs.declared.kinds.Kind.{Kind}
 use Rattle.rv_forms.specs.declared.kinds.Kind.TheVariants as kinds
 use Rattle.rv_forms.specs.declared.kinds.Syntax.{Syntax}
-use Rattle.rv_forms.specs.declared.kinds.Syntax.TheVariants.{
-  UType,
-  JType,
-  IType,
-  ShiftType,
-  LoadType,
-  SType,
-  BType,
-  RType,
-  CsrType,
-  CsrNumberType,
-  Exact,
-  LrType,
-  AmoType,
-}
+use Rattle.rv_forms.specs.declared.kinds.Syntax.TheVariants.{UType, JType, IType, ShiftType, LoadType, SType, BType, RType, CsrType, CsrNumberType, Exact, LrType, AmoType}
 use Rattle.rv_forms.specs.Forms.{kinds_of, mask_of, is_ordered, operands_of, word_of}
 use Rattle.rv_forms.specs.Mnemonics.{Mnemonic, mnemonics}
 use Rattle.rv_forms.specs.Names.{Name, name_text, named, name_of}
 use Rattle.rv_forms.proofs.NameLemmas.{is_name_byte, name_again, name_bytes}
 use Rattle.rv_forms.proofs.WordLemmas.{word_back}
-use Rattle.rv_asm.specs.Grammar.{
-  IsSignedText,
-  IsUnsignedText,
-  IsTargetText,
-  IsWordText,
-  IsValueText,
-  IsBracketText,
-  IsAddressText,
-  IsOperandText,
-  AreOperandTexts,
-  IsStatementText,
-  IsInstruction,
-  IsData,
-  IsLoad,
-  IsStatement,
-}
-use Rattle.rv_asm.specs.Operands.{
-  register,
-  signed_number,
-  unsigned_number,
-  target,
-  label_target,
-  word_number,
-  word_value,
-  label_value,
-  bracketed,
-  base_register,
-  address_by,
-  address_parts,
-  operand,
-  next_operand,
-  operands,
-}
+use Rattle.rv_asm.specs.Grammar.{IsSignedText, IsUnsignedText, IsTargetText, IsWordText, IsValueText, IsBracketText, IsAddressText, IsOperandText, AreOperandTexts, IsStatementText, IsInstruction, IsData, IsLoad, IsStatement}
+use Rattle.rv_asm.specs.Operands.{register, signed_number, unsigned_number, target, label_target, word_number, word_value, label_value, bracketed, base_register, address_by, address_parts, operand, next_operand, operands}
 use Rattle.rv_asm.specs.Reading.{register_of}
 use Rattle.rv_asm.specs.Statements.{blank, statement}
-use Rattle.rv_asm.proofs.ByteLemmas.{
-  cut_whole,
-  cut_before,
-  is_number_byte,
-  is_operand_byte,
-  number_bytes,
-  register_bytes,
-  operand_bytes,
-}
+use Rattle.rv_asm.proofs.ByteLemmas.{cut_whole, cut_before, is_number_byte, is_operand_byte, number_bytes, register_bytes, operand_bytes}
 use Rattle.rv_asm.proofs.FoundLemmas.{taken}
 use Rattle.rv_asm.proofs.RangeLemmas.{done}
 

@@ -1,36 +1,5 @@
 -- A statement is refused exactly for its first fault.
-use Rattle.std.proofs.Common.{
-  ◌≡◌,
-  ℕ,
-  ◌%◌,
-  ◌^◌,
-  ◌-◌,
-  ◌≤◌,
-  Bool,
-  true,
-  false,
-  cond,
-  List,
-  [],
-  ◌∷◌,
-  length,
-  Option,
-  Some,
-  None,
-  Result,
-  Ok,
-  Err,
-  MatchOption,
-  eqb,
-  leb,
-  refl,
-  sym,
-  subst,
-  ◌∙◌,
-  inl,
-  inr,
-  arith,
-}
+use Rattle.std.proofs.Common.{◌≡◌, ℕ, ◌%◌, ◌^◌, ◌-◌, ◌≤◌, Bool, true, false, cond, List, [], ◌∷◌, length, Option, Some, None, Result, Ok, Err, MatchOption, eqb, leb, refl, sym, subst, ◌∙◌, inl, inr, arith}
 use Rattle.std.specs.Prelude.{◌≢◌, ◌⊎◌, ◌↔◌, codes, option_map}
 use Rattle.std.specs.Str.{bytes_eq}
 use Rattle.std.proofs.lemmas.Bool.{eq-eqb, ne_eqb, lt-leb, leb-false}
@@ -48,63 +17,11 @@ use Rattle.rv_asm.specs.declared.fault.Why.TheVariants.{Word, Register, Range, L
 use Rattle.rv_asm.specs.declared.reading.Number.{Number}
 use Rattle.rv_asm.specs.Faults.{◌>>=◌}
 use Rattle.rv_asm.specs.Grammar.{IsSignedText, IsStatement}
-use Rattle.rv_asm.specs.Operands.{
-  register_or,
-  register,
-  value,
-  word,
-  even,
-  near,
-  place_or,
-  named_place,
-  distance,
-  address,
-  in_memory,
-  number_or,
-  label_target,
-  target,
-  label_value,
-  signed_number,
-  unsigned_number,
-  bracketed,
-  closed,
-  base_register,
-  address_parts,
-  word_number,
-  word_value,
-  operand,
-  after_comma,
-  next_operand,
-  operands,
-}
+use Rattle.rv_asm.specs.Operands.{register_or, register, value, word, even, near, place_or, named_place, distance, address, in_memory, number_or, label_target, target, label_value, signed_number, unsigned_number, bracketed, closed, base_register, address_parts, word_number, word_value, operand, after_comma, next_operand, operands}
 use Rattle.rv_asm.specs.Reading.{number_within, register_of, is_label}
-use Rattle.rv_asm.specs.Refusals.{
-  IsBadRegister,
-  IsBadNumber,
-  IsBadPlain,
-  IsBadLabel,
-  IsOutside,
-  IsBadTarget,
-  IsBadValue,
-  IsBadBracket,
-  IsBadAddress,
-  IsBadBase,
-  IsBadOperand,
-  IsOperand,
-  GoesOn,
-  OperandsStop,
-  Stops,
-}
+use Rattle.rv_asm.specs.Refusals.{IsBadRegister, IsBadNumber, IsBadPlain, IsBadLabel, IsOutside, IsBadTarget, IsBadValue, IsBadBracket, IsBadAddress, IsBadBase, IsBadOperand, IsOperand, GoesOn, OperandsStop, Stops}
 use Rattle.rv_asm.specs.Statements.{blank, load_words, data_words, li_words, instruction_words, statement}
-use Rattle.rv_asm.proofs.FoundLemmas.{
-  failed,
-  taken,
-  register_found,
-  signed_found,
-  operand_found,
-  comma_goes,
-  statement_found,
-}
+use Rattle.rv_asm.proofs.FoundLemmas.{failed, taken, register_found, signed_found, operand_found, comma_goes, statement_found}
 use Rattle.rv_asm.proofs.OnlyLemmas.{register_only, signed_only, operand_only, statement_only}
 
 -- what was read failed exactly for what the relation says

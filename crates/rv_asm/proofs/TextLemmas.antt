@@ -126,7 +126,8 @@ operand_written places here kinds.Csr f h = upper_is_unsigned 4095 f.wide (omega
 operand_written places here kinds.Upper f h = upper_is_unsigned 0xFFFFF f.wide (omega arith)
 operand_written places here kinds.Branch f h = target_written places here 4096 4094 4096 f.imm refl refl refl
     (omega arith) h.0.0 h.0.1 h.1
-operand_written places here kinds.Jump f h = target_written places here 1048576 1048574 1048576 f.imm refl refl refl (omega arith) h.0.0 h.0.1 h.1
+operand_written places here kinds.Jump f h = target_written places here 1048576 1048574 1048576 f.imm refl refl refl
+    (omega arith) h.0.0 h.0.1 h.1
 operand_written places here kinds.Address f h = (
   signed_text f.imm,
   bracket_text f.rs1,

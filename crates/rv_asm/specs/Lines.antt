@@ -21,7 +21,7 @@ unfoldable pub label_of : List ℕ → Option (List ℕ)
 label_of text = if ends (cut colon text).after
     && is_label (cut colon text).before then Some (cut colon text).before else None
 
--- after a label a statement stands behind one space
+-- after a label a statement stands after one space
 abbrev pub line_with : Option (List ℕ) → List ℕ → Option (List ℕ) → Line
 line_with (Some label) text rest = record { label = Some label; statement = rest }
 line_with None text rest = record {

@@ -18,9 +18,9 @@ pub fn grammar_is_read()
 {}
 
 /// A text is refused exactly where it stands for no words, and for the fault of its earliest bad
-/// place: a word of a label's form that is no register (`Register`), a number or distance out of its
-/// bounds or an odd distance (`Range`), a label without a place (`Label`), or no such statement or
-/// operand (`Word`).
+/// place: a word of a label's form that is no register (`Register`), a number or distance out of
+/// its bounds or an odd distance (`Range`), a label without a place (`Label`), or no such statement
+/// or operand (`Word`).
 pub fn refusals_are_at_their_place()
     ensures without_words { (places : List ℕ → Option ℕ) (here : ℕ) (text : List ℕ)
         → ((why : Why) × (statement places here text ≡ Err why))

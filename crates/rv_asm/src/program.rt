@@ -95,7 +95,8 @@ fn push_line<'t>(
 ) -> Result<(), AsmFault>
     requires { index + 1 < 2 ^ 64 }
     ensures written { OnOk result (WritesWords (line_words
-        (place_in context.now.labels.now) index context.now.here text.now) bytes.old.items bytes.new.items) }
+        (place_in context.now.labels.now) index context.now.here text.now) bytes.old.items
+        bytes.new.items) }
     ensures fault { IfErr result (IsFaultOf (line_words
         (place_in context.now.labels.now) index context.now.here text.now) index) }
 {
@@ -140,7 +141,7 @@ fn lines_of(alloc: Global, text: &str) -> Result<Vec<&str>, AllocError>
 /// The bytes of the words that a text's statements stand for, each word little-endian, or the
 /// text's first bad line, counted from 1, with its first fault.
 ///
-/// A line is an optional `name:`, and after it, behind one space, or alone, a statement: an
+/// A line is an optional `name:`, and after it and one space, or alone, a statement: an
 /// instruction's name in small letters, a space, and its operands with a comma and a space between
 /// them. `.word` is a number, and `li` is LUI and ADDI. The first word stands at 0x80000000.
 pub fn assemble(alloc: Global, text: &str) -> Result<Vec<u8>, AsmFault>

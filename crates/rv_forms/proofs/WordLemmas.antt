@@ -6,6 +6,7 @@ use Rattle.rv_isa.specs.Fields.{bits_at, signed, rd, rs1, rs2, imm_i, imm_s, imm
 use Rattle.rv_isa.specs.Words.{unsigned, in_aq, in_rl, u_type_word, j_type_word, i_type_word, b_type_word, s_type_word, r_type_word, csr_word, amo_word, lr_word}
 use Rattle.rv_isa.proofs.MaskLemmas.{under_opcode, under_funct3, under_funct7, under_funct5, under_lr}
 use Rattle.rv_isa.proofs.OneWordLemmas.{u_type_back, j_type_back, i_type_back, b_type_back, s_type_back, r_type_back, csr_type_back, amo_type_back, lr_type_back, exact_back}
+use Rattle.rv_isa.proofs.RowLemmas.{◌&◌}
 use Rattle.rv_isa.proofs.RangeLemmas.{imm_i_within, imm_s_within, imm_b_within, imm_j_within}
 use Rattle.rv_isa.proofs.SignLemmas.{unsigned_fits, signed-unsigned, unsigned_even}
 use Rattle.rv_forms.specs.declared.kinds.Operands.{Operands}
@@ -35,19 +36,19 @@ word_back AmoType v w l e = amo_type_back w v l e
 -- the operands of a word are within their ranges
 pub operands_in_range : (syntax : Syntax) (w : ℕ) → w < 2 ^ 32 → AreInRange (kinds_of syntax) (operands_of syntax w)
 unfolding operands_of
-operands_in_range UType w l = (omega arith, (omega arith, tt))
-operands_in_range JType w l = (omega arith, (imm_j_within w, tt))
-operands_in_range IType w l = (omega arith, (omega arith, (imm_i_within w, tt)))
-operands_in_range ShiftType w l = (omega arith, (omega arith, (omega arith, tt)))
-operands_in_range LoadType w l = (omega arith, ((imm_i_within w, omega arith), tt))
-operands_in_range SType w l = (omega arith, ((imm_s_within w, omega arith), tt))
-operands_in_range BType w l = (omega arith, (omega arith, (imm_b_within w, tt)))
-operands_in_range RType w l = (omega arith, (omega arith, (omega arith, tt)))
-operands_in_range CsrType w l = (omega arith, (omega arith, (omega arith, tt)))
-operands_in_range CsrNumberType w l = (omega arith, (omega arith, (omega arith, tt)))
+operands_in_range UType w l = (omega arith) & (omega arith) & tt
+operands_in_range JType w l = (omega arith) & imm_j_within w & tt
+operands_in_range IType w l = (omega arith) & (omega arith) & imm_i_within w & tt
+operands_in_range ShiftType w l = (omega arith) & (omega arith) & (omega arith) & tt
+operands_in_range LoadType w l = (omega arith) & (imm_i_within w, omega arith) & tt
+operands_in_range SType w l = (omega arith) & (imm_s_within w, omega arith) & tt
+operands_in_range BType w l = (omega arith) & (omega arith) & imm_b_within w & tt
+operands_in_range RType w l = (omega arith) & (omega arith) & (omega arith) & tt
+operands_in_range CsrType w l = (omega arith) & (omega arith) & (omega arith) & tt
+operands_in_range CsrNumberType w l = (omega arith) & (omega arith) & (omega arith) & tt
 operands_in_range Exact w l = tt
-operands_in_range LrType w l = (omega arith, (omega arith, tt))
-operands_in_range AmoType w l = (omega arith, (omega arith, (omega arith, tt)))
+operands_in_range LrType w l = (omega arith) & (omega arith) & tt
+operands_in_range AmoType w l = (omega arith) & (omega arith) & (omega arith) & tt
 
 -- ---- a bit that is read as a test
 
@@ -74,6 +75,10 @@ unfolding bit_value
 rl_value true = refl
 rl_value false = refl
 
+order_read : (w : ℕ) (p q : Bool) → bits_at 26 1 w ≡ bit_value p → bits_at 25 1 w ≡ bit_value q →
+    (p ≡ aq w) × (q ≡ rl w)
+order_read w p q e f = (sym (ap (λ n. n == 1) e ∙ bit_read p), sym (ap (λ n. n == 1) f ∙ bit_read q))
+
 -- ---- each format: o is the opcode, f is funct3, and g what else is fixed
 
 module _ (o f : ℕ) (lo : o < 2 ^ 7) (lf : f < 2 ^ 3) where
@@ -87,7 +92,7 @@ module _ (o f : ℕ) (lo : o < 2 ^ 7) (lf : f < 2 ^ 3) where
       let w : ℕ = u_type_word o a n in
       let ea : a ≡ rd w = omega arith in
       let en : n ≡ imm_u w = omega arith in
-      record { below = omega arith; fixed = omega (arith, under_opcode w); operands = (ea, (en, tt)); order = tt }
+      record { below = omega arith; fixed = omega (arith, under_opcode w); operands = ea & en & tt; order = tt }
 
   j_type : (x : Operands) → AreInRange (kinds_of JType) x → Keeps JType o x
   unfolding word_of operands_of
@@ -99,9 +104,10 @@ module _ (o f : ℕ) (lo : o < 2 ^ 7) (lf : f < 2 ^ 3) where
       let even : n % 2 ≡ 0 = unsigned_even 21 x.imm refl r.1.0 in
       let w : ℕ = j_type_word o a x.imm in
       let ea : a ≡ rd w = omega arith in
-      let bits : bits_at 31 1 w * 2 ^ 20 + bits_at 12 8 w * 2 ^ 12 + bits_at 20 1 w * 2 ^ 11 + bits_at 21 10 w * 2 ≡ n = omega arith in
+      let bits : bits_at 31 1 w * 2 ^ 20 + bits_at 12 8 w * 2 ^ 12 + bits_at 20 1 w * 2 ^ 11 + bits_at 21 10 w * 2
+      ≡ n = omega arith in
       let ez : imm_j w ≡ x.imm = ap (signed 21) bits ∙ signed-unsigned 21 x.imm refl r.1.0.0 in
-      record { below = omega arith; fixed = omega (arith, under_opcode w); operands = (ea, (sym ez, tt)); order = tt }
+      record { below = omega arith; fixed = omega (arith, under_opcode w); operands = ea & sym ez & tt; order = tt }
 
   i_type : (x : Operands) → AreInRange (kinds_of IType) x → Keeps IType (o + f * 2 ^ 12) x
   unfolding word_of operands_of
@@ -120,43 +126,18 @@ module _ (o f : ℕ) (lo : o < 2 ^ 7) (lf : f < 2 ^ 3) where
       record {
         below = omega arith;
         fixed = omega (arith, under_funct3 w);
-        operands = (
-          ea,
-          (
-            eb,
-            (
-              sym ez,
-              tt,
-            ),
-          ),
-        );
+        operands = ea & eb & sym ez & tt;
         order = tt;
       }
 
   load_type : (x : Operands) → AreInRange (kinds_of LoadType) x → Keeps LoadType (o + f * 2 ^ 12) x
   unfolding word_of operands_of
   load_type x r =
-      let a : ℕ = x.rd in
-      let la : a < 2 ^ 5 = r.0 in
-      let b : ℕ = x.rs1 in
-      let lb : b < 2 ^ 5 = r.1.0.1 in
-      let n : ℕ = unsigned 12 x.imm in
-      let ln : n < 2 ^ 12 = unsigned_fits 12 x.imm refl r.1.0.0 in
-      let w : ℕ = i_type_word (o + f * 2 ^ 12) a b x.imm in
-      let ea : a ≡ rd w = omega arith in
-      let eb : b ≡ rs1 w = omega arith in
-      let bits : bits_at 20 12 w ≡ n = omega arith in
-      let ez : imm_i w ≡ x.imm = ap (signed 12) bits ∙ signed-unsigned 12 x.imm refl r.1.0.0 in
+      let k = i_type x (r.0 & r.1.0.1 & r.1.0.0 & tt) in
       record {
-        below = omega arith;
-        fixed = omega (arith, under_funct3 w);
-        operands = (
-          ea,
-          (
-            (sym ez, eb),
-            tt,
-          ),
-        );
+        below = k.below;
+        fixed = k.fixed;
+        operands = k.operands.0 & (k.operands.1.1.0, k.operands.1.0) & tt;
         order = tt;
       }
 
@@ -177,13 +158,7 @@ module _ (o f : ℕ) (lo : o < 2 ^ 7) (lf : f < 2 ^ 3) where
       record {
         below = omega arith;
         fixed = omega (arith, under_funct3 w);
-        operands = (
-          eb,
-          (
-            (sym ez, ea),
-            tt,
-          ),
-        );
+        operands = eb & (sym ez, ea) & tt;
         order = tt;
       }
 
@@ -206,16 +181,7 @@ module _ (o f : ℕ) (lo : o < 2 ^ 7) (lf : f < 2 ^ 3) where
       record {
         below = omega arith;
         fixed = omega (arith, under_funct3 w);
-        operands = (
-          ea,
-          (
-            eb,
-            (
-              sym ez,
-              tt,
-            ),
-          ),
-        );
+        operands = ea & eb & sym ez & tt;
         order = tt;
       }
 
@@ -232,50 +198,12 @@ module _ (o f : ℕ) (lo : o < 2 ^ 7) (lf : f < 2 ^ 3) where
       let ea : a ≡ rd w = omega arith in
       let eb : b ≡ rs1 w = omega arith in
       let en : n ≡ csr w = omega arith in
-      record {
-        below = omega arith;
-        fixed = omega (arith, under_funct3 w);
-        operands = (
-          ea,
-          (
-            en,
-            (
-              eb,
-              tt,
-            ),
-          ),
-        );
-        order = tt;
-      }
+      record { below = omega arith; fixed = omega (arith, under_funct3 w); operands = ea & en & eb & tt; order = tt }
 
   csr_number_type : (x : Operands) → AreInRange (kinds_of CsrNumberType) x → Keeps CsrNumberType (o + f * 2 ^ 12) x
   unfolding word_of operands_of
   csr_number_type x r =
-      let a : ℕ = x.rd in
-      let la : a < 2 ^ 5 = r.0 in
-      let n : ℕ = x.wide in
-      let ln : n < 2 ^ 12 = r.1.0 in
-      let b : ℕ = x.rs1 in
-      let lb : b < 2 ^ 5 = r.1.1.0 in
-      let w : ℕ = csr_word (o + f * 2 ^ 12) a b n in
-      let ea : a ≡ rd w = omega arith in
-      let eb : b ≡ rs1 w = omega arith in
-      let en : n ≡ csr w = omega arith in
-      record {
-        below = omega arith;
-        fixed = omega (arith, under_funct3 w);
-        operands = (
-          ea,
-          (
-            en,
-            (
-              eb,
-              tt,
-            ),
-          ),
-        );
-        order = tt;
-      }
+      let k = csr_type x r in record { below = k.below; fixed = k.fixed; operands = k.operands; order = tt }
 
   r_type : (g : ℕ) → g < 2 ^ 7 → (x : Operands) → AreInRange (kinds_of RType) x →
       Keeps RType (o + f * 2 ^ 12 + g * 2 ^ 25) x
@@ -291,51 +219,13 @@ module _ (o f : ℕ) (lo : o < 2 ^ 7) (lf : f < 2 ^ 3) where
       let ea : a ≡ rd w = omega arith in
       let eb : b ≡ rs1 w = omega arith in
       let ec : c ≡ rs2 w = omega arith in
-      record {
-        below = omega arith;
-        fixed = omega (arith, under_funct7 w);
-        operands = (
-          ea,
-          (
-            eb,
-            (
-              ec,
-              tt,
-            ),
-          ),
-        );
-        order = tt;
-      }
+      record { below = omega arith; fixed = omega (arith, under_funct7 w); operands = ea & eb & ec & tt; order = tt }
 
   shift_type : (g : ℕ) → g < 2 ^ 7 → (x : Operands) → AreInRange (kinds_of ShiftType) x →
       Keeps ShiftType (o + f * 2 ^ 12 + g * 2 ^ 25) x
   unfolding word_of operands_of
   shift_type g lg x r =
-      let a : ℕ = x.rd in
-      let la : a < 2 ^ 5 = r.0 in
-      let b : ℕ = x.rs1 in
-      let lb : b < 2 ^ 5 = r.1.0 in
-      let c : ℕ = x.rs2 in
-      let lc : c < 2 ^ 5 = r.1.1.0 in
-      let w : ℕ = r_type_word (o + f * 2 ^ 12 + g * 2 ^ 25) a b c in
-      let ea : a ≡ rd w = omega arith in
-      let eb : b ≡ rs1 w = omega arith in
-      let ec : c ≡ rs2 w = omega arith in
-      record {
-        below = omega arith;
-        fixed = omega (arith, under_funct7 w);
-        operands = (
-          ea,
-          (
-            eb,
-            (
-              ec,
-              tt,
-            ),
-          ),
-        );
-        order = tt;
-      }
+      let k = r_type g lg x r in record { below = k.below; fixed = k.fixed; operands = k.operands; order = tt }
 
   amo_type : (g : ℕ) → g < 2 ^ 5 → (x : Operands) → AreInRange (kinds_of AmoType) x →
       Keeps AmoType (o + f * 2 ^ 12 + g * 2 ^ 27) x
@@ -350,29 +240,16 @@ module _ (o f : ℕ) (lo : o < 2 ^ 7) (lf : f < 2 ^ 3) where
       let w : ℕ = amo_word (o + f * 2 ^ 12 + g * 2 ^ 27) a b c x.aq x.rl in
       let lp : bit_value x.aq < 2 = bit_below x.aq in
       let lq : bit_value x.rl < 2 = bit_below x.rl in
-      let sum : w
-      ≡ o + f * 2 ^ 12 + g * 2 ^ 27 + a * 2 ^ 7 + b * 2 ^ 15 + c * 2 ^ 20 + bit_value x.aq * 2 ^ 26 + bit_value x.rl * 2 ^ 25 = omega (arith, aq_value x.aq, rl_value x.rl) in
+      let sum : w ≡ o + f * 2 ^ 12 + g * 2 ^ 27 + a * 2 ^ 7 + b * 2 ^ 15 + c * 2 ^ 20
+      + bit_value x.aq * 2 ^ 26 + bit_value x.rl * 2 ^ 25 = omega (arith, aq_value x.aq, rl_value x.rl) in
       let ea : a ≡ rd w = omega arith in
       let eb : b ≡ rs1 w = omega arith in
       let ec : c ≡ rs2 w = omega arith in
-      let bp : bits_at 26 1 w ≡ bit_value x.aq = omega arith in
-      let bq : bits_at 25 1 w ≡ bit_value x.rl = omega arith in
-      let ep : aq w ≡ x.aq = ap (λ n. n == 1) bp ∙ bit_read x.aq in
-      let eq : rl w ≡ x.rl = ap (λ n. n == 1) bq ∙ bit_read x.rl in
       record {
         below = omega arith;
         fixed = omega (arith, under_funct5 w);
-        operands = (
-          ea,
-          (
-            ec,
-            (
-              eb,
-              tt,
-            ),
-          ),
-        );
-        order = (sym ep, sym eq);
+        operands = ea & ec & eb & tt;
+        order = order_read w x.aq x.rl (omega arith) (omega arith);
       }
 
   lr_type : (g : ℕ) → g < 2 ^ 5 → (x : Operands) → AreInRange (kinds_of LrType) x →
@@ -386,22 +263,15 @@ module _ (o f : ℕ) (lo : o < 2 ^ 7) (lf : f < 2 ^ 3) where
       let w : ℕ = lr_word (o + f * 2 ^ 12 + g * 2 ^ 27) a b x.aq x.rl in
       let lp : bit_value x.aq < 2 = bit_below x.aq in
       let lq : bit_value x.rl < 2 = bit_below x.rl in
-      let sum : w
-      ≡ o + f * 2 ^ 12 + g * 2 ^ 27 + a * 2 ^ 7 + b * 2 ^ 15 + bit_value x.aq * 2 ^ 26 + bit_value x.rl * 2 ^ 25 = omega (arith, aq_value x.aq, rl_value x.rl) in
+      let sum : w ≡ o + f * 2 ^ 12 + g * 2 ^ 27 + a * 2 ^ 7 + b * 2 ^ 15
+      + bit_value x.aq * 2 ^ 26 + bit_value x.rl * 2 ^ 25 = omega (arith, aq_value x.aq, rl_value x.rl) in
       let ea : a ≡ rd w = omega arith in
       let eb : b ≡ rs1 w = omega arith in
-      let bp : bits_at 26 1 w ≡ bit_value x.aq = omega arith in
-      let bq : bits_at 25 1 w ≡ bit_value x.rl = omega arith in
-      let ep : aq w ≡ x.aq = ap (λ n. n == 1) bp ∙ bit_read x.aq in
-      let eq : rl w ≡ x.rl = ap (λ n. n == 1) bq ∙ bit_read x.rl in
       record {
         below = omega arith;
         fixed = omega (arith, under_lr w);
-        operands = (ea, (eb, tt));
-        order = (
-          sym ep,
-          sym eq,
-        );
+        operands = ea & eb & tt;
+        order = order_read w x.aq x.rl (omega arith) (omega arith);
       }
 
 -- ---- any format

@@ -49,7 +49,7 @@ order_after (Some text) = order_of text
 unfoldable pub named : List ℕ → Option Mnemonic
 named name = find (λ m. bytes_eq m.name name) mnemonics
 
--- the order bits stand behind the names of the A extension alone
+-- the order bits stand after the names of the A extension alone
 abbrev pub with_order : Option (Bool × Bool) → Mnemonic → Option Name
 with_order None m = if is_ordered m.syntax then None
     else Some (record { mnemonic = m; aq = false; rl = false })

@@ -17,8 +17,8 @@ loop-index-preserved c =
     ∙ ap word_count c.line_of.ensures.statement in
     record {
       small = omega (arith, c.word_count-here.ensures.small);
-      read = rw count (read_more
-          (place_in c.in_ok-labels.labels) lines i c.loop-index.here text c.loop-index.bytes.items _ cons c.in_ok-push_line.ensures.written c.loop-index.invariant.read);
+      read = rw count (read_more (place_in c.in_ok-labels.labels) lines i c.loop-index.here text
+          c.loop-index.bytes.items _ cons c.in_ok-push_line.ensures.written c.loop-index.invariant.read);
     }
 
 pub returns-in_err-push_line-clause-fault : goal.returns-in_err-push_line-clause-fault
@@ -31,8 +31,9 @@ returns-in_err-push_line-clause-fault c =
     let same : place_of lines ≡ place_in c.in_ok-labels.labels = fun_ext (λ name. sym
     (c.in_ok-labels.ensures.places name)) in
     let p = err_from_is_err_and c.from_residual-in_err-push_line.result c.from_residual-in_err-push_line.ensures.1 in
-    rw (p.1, p.2) (read_fault
-    (place_in c.in_ok-labels.labels) lines i c.loop-index.here text c.loop-index.bytes.items c.in_err-push_line.field-0.0 cons same c.in_err-push_line.ensures.fault c.loop-index.invariant.read)
+    rw (p.1, p.2) (read_fault (place_in c.in_ok-labels.labels) lines i c.loop-index.here text
+    c.loop-index.bytes.items c.in_err-push_line.field-0.0 cons same c.in_err-push_line.ensures.fault
+    c.loop-index.invariant.read)
 
 pub returns-clause-words : goal.returns-clause-words
 returns-clause-words c =
