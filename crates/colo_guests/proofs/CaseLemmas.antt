@@ -31,7 +31,13 @@ unfolding word_at
 memory_size words small = omega arith
 
 abbrev segment_of : ℕ → ℕ → ProgramHeader
-segment_of in_file in_memory = record { p_type = 1; p_offset = 84; p_paddr = 0x80000000; p_filesz = in_file; p_memsz = in_memory }
+segment_of in_file in_memory = record {
+  p_type = 1;
+  p_offset = 84;
+  p_paddr = 0x80000000;
+  p_filesz = in_file;
+  p_memsz = in_memory;
+}
 
 segments_by : (words : List ℕ) → segments (elf_file words) ≡ segment_of (word_at (elf_file words) 68) (word_at
     (elf_file words) 72) ∷ []
