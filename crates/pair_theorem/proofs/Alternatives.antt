@@ -120,7 +120,7 @@ shown_memory : sum (concat (survivor_state (entries shown_steps)
 unfolding clock_start shown_steps nodes_at
 shown_memory = refl
 
-run_memory : sum (concat (the_run clock_start (entries shown_steps)).run.state.pages) ≡ 2
+run_memory : sum (concat (the_run clock_start (entries shown_steps)).state.pages) ≡ 2
 unfolding clock_start shown_steps the_run
 run_memory = refl
 

@@ -1,5 +1,5 @@
 -- Three parts hold of the log of each start and each schedule: Log, Marks, and both guests' turns.
-use Rattle.std.proofs.Common.{◌≡◌, ℕ, ◌+◌, ◌%◌, ◌^◌, List, [], ◌∷◌, ◌++◌, Option, None, Some, refl, sym, ap, ◌∙◌}
+use Rattle.std.proofs.Common.{◌≡◌, ℕ, ◌+◌, ◌%◌, ◌^◌, List, [], ◌∷◌, ◌++◌, Bool, filter, flat_map, map, Option, None, Some, refl, sym, ap, ◌∙◌}
 use Rattle.std.proofs.Math.Nat.{mod-add-mod}
 use Rattle.std.proofs.lemmas.Grind.{fold-append}
 use Rattle.colo_base.specs.declared.fault.Cause.{Cause}
@@ -8,11 +8,15 @@ use Rattle.state_wire.specs.Guest.{Kind}
 use Rattle.pair_theorem.specs.Events.{outcome_of}
 use Rattle.pair_theorem.specs.History.{entries, lines_of, pair_log, past_at, past_from, steps_from}
 use Rattle.replay_log.specs.declared.lines.Line.{Line}
+use Rattle.replay_log.specs.declared.records.Answer.{Answer}
+use Rattle.replay_log.specs.declared.records.Mark.{Mark}
 use Rattle.replay_log.specs.declared.records.Mark.TheVariants.{Captured}
-use Rattle.pair_theorem.specs.LogParts.{GuestsPart, LogPart, MarksPart, ack_marks, acks_due, capture_marks, causes_in, commit_marks, commits_due, count_on, count_turn, counts_released, counts_stated, is_acknowledged, is_captured, is_committed, marks_that, nodes_at, turns_of_secondary}
-use Rattle.pair_theorem.specs.Past.{Past, Start, first_past}
+use Rattle.replay_log.specs.declared.records.Record.{Record}
+use Rattle.pair_theorem.specs.LogParts.{GuestsPart, LogPart, MarksPart, ack_marks, capture_marks, causes_in, commit_marks, count_on, count_turn, counts_released, counts_stated, is_acknowledged, is_captured, is_committed, marks_that, nodes_at}
+use Rattle.pair_theorem.specs.Messages.{Message}
+use Rattle.pair_theorem.specs.Past.{Past, Start, Step, first_past}
 use Rattle.pair_theorem.specs.Places.{events, events_from}
-use Rattle.pair_theorem.specs.SingleRun.{made_by_primary, made_by_secondary, primary_turn, secondary_turn, turns_of_primary}
+use Rattle.splice_run.specs.Tokens.{Taken, made_by_primary, made_by_secondary}
 use Rattle.pair_theorem.proofs.EventFacts.{captured_mark, captures_after, event_facts}
 
 -- LOG
@@ -97,26 +101,21 @@ captures_from kind stream past n (x ∷ xs) e =
     (f.captures ∙ count_captures n past.captures o.cause e) in
     (λ i. here i ∷ later i) ∙ mark_of_cause n past.captures o.cause (causes_from kind stream o.after xs) e
 
-commits_from : (kind : Kind) (stream : List (List ℕ)) (past : Past) (lines : List Line)
-    → marks_that is_committed (steps_from kind stream past lines) ≡ commits_due (steps_from kind stream past lines)
+-- the marks of one sort, where each event has those that are due
+marks_from : (sort : Mark → Bool) (due : Line → Option Message → List Mark)
+    → ((kind : Kind) (stream : List (List ℕ)) (past : Past) (x : Line)
+    → filter sort (outcome_of kind stream past x).step.entry.marks
+    ≡ due x (outcome_of kind stream past x).step.delivered)
+    → (kind : Kind) (stream : List (List ℕ)) (past : Past) (lines : List Line)
+    → marks_that sort (steps_from kind stream past lines)
+    ≡ map (λ (s : Step). due s.entry.line s.delivered) (steps_from kind stream past lines)
 unfolding steps_from
-commits_from kind stream past [] = refl
-commits_from kind stream past (x ∷ xs) =
+marks_from sort due marked kind stream past [] = refl
+marks_from sort due marked kind stream past (x ∷ xs) =
     let o = outcome_of kind stream past x in
-    let f = event_facts kind stream past x in
-    let here = f.committed ∙ ap (λ (l : Line). commit_marks l o.step.delivered) (sym f.line) in
-    let later = commits_from kind stream o.after xs in
-    λ i. here i ∷ later i
-
-acks_from : (kind : Kind) (stream : List (List ℕ)) (past : Past) (lines : List Line)
-    → marks_that is_acknowledged (steps_from kind stream past lines) ≡ acks_due (steps_from kind stream past lines)
-unfolding steps_from
-acks_from kind stream past [] = refl
-acks_from kind stream past (x ∷ xs) =
-    let o = outcome_of kind stream past x in
-    let f = event_facts kind stream past x in
-    let here = f.acknowledged ∙ ap (λ (l : Line). ack_marks l o.step.delivered) (sym f.line) in
-    let later = acks_from kind stream o.after xs in
+    let line = sym (event_facts kind stream past x).line in
+    let here = marked kind stream past x ∙ ap (λ (l : Line). due l o.step.delivered) line in
+    let later = marks_from sort due marked kind stream o.after xs in
     λ i. here i ∷ later i
 
 pub marks_hold : (a : Start) (lines : List Line) → MarksPart a (pair_log a lines)
@@ -125,38 +124,31 @@ marks_hold a lines = record {
   captures = captures_from a.kind a.stream (first_past a) 0 lines refl
       ∙ ap (λ (cs : List (Option Cause)). capture_marks 0 cs)
       (sym (causes_are a.kind a.stream (first_past a) [] lines));
-  commits = commits_from a.kind a.stream (first_past a) lines;
-  acks = acks_from a.kind a.stream (first_past a) lines;
+  commits = marks_from is_committed commit_marks
+      (λ kind stream past x. (event_facts kind stream past x).committed) a.kind a.stream (first_past a) lines;
+  acks = marks_from is_acknowledged ack_marks
+      (λ kind stream past x. (event_facts kind stream past x).acknowledged) a.kind a.stream (first_past a) lines;
 }
 
 -- GUESTS
-primary_counts : (kind : Kind) (stream : List (List ℕ)) (past : Past) (lines : List Line)
-    → (past_from kind stream past lines).primary_turned
-    ≡ count_on past.primary_turned (turns_of_primary (entries (steps_from kind stream past lines)))
+-- of either node: each event counts the turn that its record says the node made
+turns_counted : (turned : Past → ℕ) (made : Line → Answer → List Taken)
+    → ((kind : Kind) (stream : List (List ℕ)) (past : Past) (x : Line)
+    → turned (outcome_of kind stream past x).after
+    ≡ count_on (turned past) (made x (outcome_of kind stream past x).step.entry.answer))
+    → (kind : Kind) (stream : List (List ℕ)) (past : Past) (lines : List Line)
+    → turned (past_from kind stream past lines) ≡ count_on (turned past)
+    (flat_map (λ (r : Record). made r.line r.answer) (entries (steps_from kind stream past lines)))
 unfolding past_from steps_from
-primary_counts kind stream past [] = refl
-primary_counts kind stream past (x ∷ xs) =
+turns_counted turned made counted kind stream past [] = refl
+turns_counted turned made counted kind stream past (x ∷ xs) =
     let o = outcome_of kind stream past x in
-    let f = event_facts kind stream past x in
-    let rest = turns_of_primary (entries (steps_from kind stream o.after xs)) in
-    primary_counts kind stream o.after xs
-    ∙ (ap (λ (n : ℕ). count_on n rest) (f.primary_turned ∙ ap
-    (λ (l : Line). count_on past.primary_turned (made_by_primary l o.step.entry.answer)) (sym f.line))
-    ∙ sym (fold-append count_turn past.primary_turned (primary_turn o.step.entry) rest))
-
-secondary_counts : (kind : Kind) (stream : List (List ℕ)) (past : Past) (lines : List Line)
-    → (past_from kind stream past lines).secondary_turned
-    ≡ count_on past.secondary_turned (turns_of_secondary (entries (steps_from kind stream past lines)))
-unfolding past_from steps_from
-secondary_counts kind stream past [] = refl
-secondary_counts kind stream past (x ∷ xs) =
-    let o = outcome_of kind stream past x in
-    let f = event_facts kind stream past x in
-    let rest = turns_of_secondary (entries (steps_from kind stream o.after xs)) in
-    secondary_counts kind stream o.after xs
-    ∙ (ap (λ (n : ℕ). count_on n rest) (f.secondary_turned ∙ ap
-    (λ (l : Line). count_on past.secondary_turned (made_by_secondary l o.step.entry.answer)) (sym f.line))
-    ∙ sym (fold-append count_turn past.secondary_turned (secondary_turn o.step.entry) rest))
+    let entry = o.step.entry in
+    let rest = flat_map (λ (r : Record). made r.line r.answer) (entries (steps_from kind stream o.after xs)) in
+    turns_counted turned made counted kind stream o.after xs
+    ∙ (ap (λ (n : ℕ). count_on n rest) (counted kind stream past x ∙ ap
+    (λ (l : Line). count_on (turned past) (made l entry.answer)) (sym (event_facts kind stream past x).line))
+    ∙ sym (fold-append count_turn (turned past) (made entry.line entry.answer) rest))
 
 past_is : (a : Start) (lines : List Line) → past_at a (pair_log a lines) ≡ past_from a.kind a.stream (first_past a)
     lines
@@ -167,7 +159,9 @@ pub guests_hold : (a : Start) (lines : List Line) → GuestsPart a (pair_log a l
 unfolding nodes_at pair_log
 guests_hold a lines = record {
   primary = ap (λ (p : Past). p.primary_turned) (past_is a lines)
-      ∙ primary_counts a.kind a.stream (first_past a) lines;
+      ∙ turns_counted (λ (p : Past). p.primary_turned) made_by_primary
+      (λ kind stream past x. (event_facts kind stream past x).primary_turned) a.kind a.stream (first_past a) lines;
   secondary = ap (λ (p : Past). p.secondary_turned) (past_is a lines)
-      ∙ secondary_counts a.kind a.stream (first_past a) lines;
+      ∙ turns_counted (λ (p : Past). p.secondary_turned) made_by_secondary
+      (λ kind stream past x. (event_facts kind stream past x).secondary_turned) a.kind a.stream (first_past a) lines;
 }

@@ -14,11 +14,11 @@ use Rattle.replay_log.specs.declared.records.Answer.{Answer}
 use Rattle.replay_log.specs.declared.records.Answer.TheVariants.{Nothing, Made, Accepted, Arp, Dropped, Full, Lost, Heard, HeardBack, Zero, Reported}
 use Rattle.replay_log.specs.declared.records.Mark.{Mark}
 use Rattle.replay_log.specs.declared.records.Mark.TheVariants.{Captured, Committed, Acknowledged}
-use Rattle.pair_theorem.specs.Log.{released_count}
+use Rattle.splice_run.specs.Log.{released_count}
 use Rattle.pair_theorem.specs.LogParts.{ack_marks, commit_marks, count_on, is_acknowledged, is_captured, is_committed}
 use Rattle.pair_theorem.specs.Messages.{Message, Frame, Number, Begin, State, Page, Disk, Held, LineRow, Bytes, End, Known, Sent, Ack, kind_of}
 use Rattle.pair_theorem.specs.Past.{Outcome, Past, is_primary_stop, primary_stop, quietly, secondary_stop, silently, step_with}
-use Rattle.pair_theorem.specs.SingleRun.{made_by_primary, made_by_secondary}
+use Rattle.splice_run.specs.Tokens.{made_by_primary, made_by_secondary}
 use Rattle.pair_theorem.proofs.EventCases.{Cases, asked_outcome, each_case}
 
 -- the mark of a capture, and the number of the last capture after it

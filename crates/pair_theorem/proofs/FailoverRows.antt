@@ -7,7 +7,7 @@ use Rattle.replay_log.specs.declared.records.Mark.TheVariants.{Committed}
 use Rattle.pair_theorem.specs.Past.{first_past}
 use Rattle.replay_log.specs.declared.turns.Turn.{Turn}
 use Rattle.replay_log.specs.declared.turns.TurnFrame.TheVariants.{Absent, Plain}
-use Rattle.pair_theorem.specs.SingleRun.{single}
+use Rattle.splice_run.specs.Single.{single_run}
 use Rattle.pair_theorem.proofs.DifferenceRow.{captured_told}
 use Rattle.pair_theorem.proofs.OpeningRow.{opening_told}
 use Rattle.pair_theorem.proofs.Told.{Told, told, plain, marked, releases, syn_out, data_out}
@@ -34,8 +34,8 @@ pub failover : told (pair_log worked_start failover_lines) ≡ failover_told
 unfolding pair_log worked_start
 failover = refl
 
-pub failover_single : single (entries (pair_log worked_start failover_lines)) ≡ syn_turn 2 ∷ single_turn 4 ∷ []
-unfolding pair_log worked_start single
+pub failover_single : single_run (entries (pair_log worked_start failover_lines)) ≡ syn_turn 2 ∷ single_turn 4 ∷ []
+unfolding pair_log worked_start single_run
 failover_single = refl
 
 -- the surviving guest has made two turns of its own
@@ -56,8 +56,8 @@ pub before_end : told (pair_log worked_start stop_before_end_lines) ≡ before_e
 unfolding pair_log worked_start
 before_end = refl
 
-pub before_end_single : single (entries (pair_log worked_start stop_before_end_lines)) ≡ syn_turn 2 ∷ single_turn 7 ∷ []
-unfolding pair_log worked_start single
+pub before_end_single : single_run (entries (pair_log worked_start stop_before_end_lines)) ≡ syn_turn 2 ∷ single_turn 7 ∷ []
+unfolding pair_log worked_start single_run
 before_end_single = refl
 
 -- AFTER IT
@@ -73,8 +73,8 @@ pub after_end : told (pair_log worked_start stop_after_end_lines) ≡ after_end_
 unfolding pair_log worked_start
 after_end = refl
 
-pub after_end_single : single (entries (pair_log worked_start stop_after_end_lines)) ≡ syn_turn 1 ∷ single_turn 6 ∷ []
-unfolding pair_log worked_start single
+pub after_end_single : single_run (entries (pair_log worked_start stop_after_end_lines)) ≡ syn_turn 1 ∷ single_turn 6 ∷ []
+unfolding pair_log worked_start single_run
 after_end_single = refl
 
 -- BETWEEN THE STOP AND ITS REPORT
@@ -90,8 +90,8 @@ pub between : told (pair_log worked_start end_after_stop_lines) ≡ between_told
 unfolding pair_log worked_start
 between = refl
 
-pub between_single : single (entries (pair_log worked_start end_after_stop_lines)) ≡ syn_turn 1 ∷ single_turn 6 ∷ []
-unfolding pair_log worked_start single
+pub between_single : single_run (entries (pair_log worked_start end_after_stop_lines)) ≡ syn_turn 1 ∷ single_turn 6 ∷ []
+unfolding pair_log worked_start single_run
 between_single = refl
 
 -- THE SECONDARY STOPS: at the report the primary's own line goes out, and what it repeats goes out again

@@ -21,7 +21,7 @@ pub mod Alternatives
 pub mod ResetRows
 pub mod ReturnRow
 pub mod HistoryLemmas
-pub mod SingleRunLemmas
 pub mod EventCases
 pub mod EventFacts
 pub mod EachLog
+pub mod RunLemmas

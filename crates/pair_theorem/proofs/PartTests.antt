@@ -25,7 +25,8 @@ use Rattle.replay_log.specs.declared.records.Mark.TheVariants.{Captured, Committ
 use Rattle.pair_theorem.specs.LogParts.{acks_due, commits_due, causes_in, counts_released, counts_stated, marks_that, steps_due, FilesPart, LogPart, MarksPart, NamesPart, accepted_indices, capture_marks, files_of, is_accounted_for, is_acknowledged, is_captured, is_committed, nodes_at, run_indices, survivor_state, wire_bytes}
 use Rattle.pair_theorem.specs.Past.{Agreed, Start, Step}
 use Rattle.pair_theorem.specs.Places.{Event, Place, events, places}
-use Rattle.pair_theorem.specs.TheRun.{is_accepted, run_segments, stream_entry, the_run}
+use Rattle.splice_run.specs.Runs.{accepted_frame, is_accepted}
+use Rattle.pair_theorem.specs.TheRun.{run_segments, stream_entry, the_run}
 use Rattle.pair_theorem.proofs.AllLemmas.{All_from}
 use Rattle.pair_theorem.proofs.ResetTests.{is_refusal_shown, refusal_shown, reset_stands, resets_from}
 use Rattle.pair_theorem.proofs.StandsTests.{each_stands, each_symbol}
@@ -303,17 +304,17 @@ unfolding is_accounted_for
 missing_test a steps = list_all (is_accounted_for a steps) (accepted_indices steps)
 
 unfoldable pub names_test : Start → List Step → Bool
-unfolding run_indices is_accepted missing_test
+unfolding run_indices accepted_frame missing_test
 names_test a steps =
-    rises (run_indices (entries steps)) && (list_all (is_accepted a) (run_indices (entries steps)) && missing_test a
+    rises (run_indices (entries steps)) && (list_all (is_accepted a.stream) (run_indices (entries steps)) && missing_test a
     steps)
 
 names_with : (a : Start) (steps : List Step) → rises (run_indices (entries steps)) ≡ true
-    → list_all (is_accepted a) (run_indices (entries steps)) ≡ true → missing_test a steps ≡ true → NamesPart a steps
+    → list_all (is_accepted a.stream) (run_indices (entries steps)) ≡ true → missing_test a steps ≡ true → NamesPart a steps
 unfolding missing_test
 names_with a steps e f g = record {
   rising = rising (run_indices (entries steps)) e;
-  accepted = All_from (λ i. IsTrue (is_accepted a i)) (is_accepted a) (run_indices (entries steps)) (λ i h. h) f;
+  accepted = All_from (λ i. IsTrue (is_accepted a.stream i)) (is_accepted a.stream) (run_indices (entries steps)) (λ i h. h) f;
   missing =
       All_from (λ i. IsTrue (is_accounted_for a steps i)) (is_accounted_for a steps) (accepted_indices steps) (λ i h. h)
       g;
@@ -323,8 +324,8 @@ pub names_from : (a : Start) (steps : List Step) → names_test a steps ≡ true
 unfolding names_test
 names_from a steps e =
     let outer = and_parts (rises (run_indices (entries steps)))
-    (list_all (is_accepted a) (run_indices (entries steps)) && missing_test a steps) e in
-    let inner = and_parts (list_all (is_accepted a) (run_indices (entries steps))) (missing_test a steps) outer.1 in
+    (list_all (is_accepted a.stream) (run_indices (entries steps)) && missing_test a steps) e in
+    let inner = and_parts (list_all (is_accepted a.stream) (run_indices (entries steps))) (missing_test a steps) outer.1 in
     names_with a steps outer.0 inner.0 inner.1
 
 -- LOG
@@ -458,7 +459,7 @@ wire_due a steps = wire_bytes (steps_due (events a steps))
 unfoldable pub files_test : Start → List Step → Bool
 unfolding nodes_at the_run wire_bytes wire_due
 files_test a steps =
-    same_state (survivor_state (entries steps) (nodes_at a steps)) (the_run a (entries steps)).run.state
+    same_state (survivor_state (entries steps) (nodes_at a steps)) (the_run a (entries steps)).state
     && same_bytes (wire_bytes steps) (wire_due a steps)
 
 pub files_from : (a : Start) (steps : List Step) → files_test a steps ≡ true
@@ -466,10 +467,10 @@ pub files_from : (a : Start) (steps : List Step) → files_test a steps ≡ true
 unfolding files_test wire_due files_of
 files_from a steps e =
     let parts = and_parts (same_state (survivor_state (entries steps) (nodes_at a steps))
-    (the_run a (entries steps)).run.state) (same_bytes (wire_bytes steps) (wire_due a steps)) e in
+    (the_run a (entries steps)).state) (same_bytes (wire_bytes steps) (wire_due a steps)) e in
     record {
       state =
-          states_same (survivor_state (entries steps) (nodes_at a steps)) (the_run a (entries steps)).run.state parts.0;
+          states_same (survivor_state (entries steps) (nodes_at a steps)) (the_run a (entries steps)).state parts.0;
       ram = refl;
       disk = refl;
       log = refl;

@@ -5,9 +5,10 @@ use Rattle.std.proofs.lemmas.Bool.{and_parts}
 use Rattle.pair_theorem.specs.History.{entries, lines_of, pair_log}
 use Rattle.replay_log.specs.declared.lines.Line.{Line}
 use Rattle.replay_log.specs.declared.lines.Line.TheVariants.{ToSecondary}
-use Rattle.pair_theorem.specs.LogParts.{count_on, GuestsPart, Nodes, SecondaryPart, ToldPart, files_of, nodes_at, spell, told_secondary, turns_of_secondary}
+use Rattle.pair_theorem.specs.LogParts.{count_on, GuestsPart, Nodes, SecondaryPart, ToldPart, files_of, nodes_at, spell, told_secondary, turns_of_primary, turns_of_secondary}
 use Rattle.pair_theorem.specs.Past.{Start, Step}
-use Rattle.pair_theorem.specs.SingleRun.{has_primary_stop, secondary_turns, turns_of_primary}
+use Rattle.splice_run.specs.Single.{secondary_turns}
+use Rattle.splice_run.specs.Log.{has_primary_stop}
 use Rattle.pair_theorem.specs.TheRun.{run_of}
 use Rattle.pair_theorem.specs.Theorem.{IsDetermined, PairTheorem, WhilePrimaryRuns}
 use Rattle.pair_theorem.proofs.Breaking.{one_run_from, passes_all}
@@ -35,13 +36,13 @@ guests_from a steps nodes e =
 unfoldable pub secondary_test : Start → List Step → Nodes → Bool
 unfolding run_of secondary_turns
 secondary_test a steps nodes =
-    same_state nodes.secondary (run_of a (entries steps) (secondary_turns (entries steps))).run.state
+    same_state nodes.secondary (run_of a (entries steps) (secondary_turns (entries steps))).state
 
 pub secondary_from : (a : Start) (steps : List Step) (nodes : Nodes) → secondary_test a steps nodes ≡ true
     → SecondaryPart a steps nodes
 unfolding secondary_test
 secondary_from a steps nodes e =
-    states_same nodes.secondary (run_of a (entries steps) (secondary_turns (entries steps))).run.state e
+    states_same nodes.secondary (run_of a (entries steps) (secondary_turns (entries steps))).state e
 
 unfoldable pub told_test : Start → List Step → Nodes → Bool
 told_test a steps nodes = same_state nodes.secondary (fold spell a.run.state (told_secondary steps))

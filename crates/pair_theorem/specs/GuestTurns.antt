@@ -14,7 +14,7 @@ use Rattle.tcp_track.specs.Stands.{opening_of}
 use Rattle.state_wire.specs.Guest.{GuestTurn, Kind}
 use Rattle.state_wire.specs.Run.{run_turn}
 use Rattle.pair_theorem.specs.Past.{NodeRun}
-use Rattle.pair_theorem.specs.SingleRun.{Taken}
+use Rattle.splice_run.specs.Tokens.{Taken}
 
 -- the numbers of a turn of a schedule
 pub record TurnNumbers : Type 0 where

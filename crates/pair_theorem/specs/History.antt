@@ -5,7 +5,7 @@ use Rattle.pair_theorem.specs.Events.{outcome_of}
 use Rattle.state_wire.specs.Guest.{Kind}
 use Rattle.replay_log.specs.declared.lines.Line.{Line}
 use Rattle.replay_log.specs.declared.records.Record.{Record}
-use Rattle.pair_theorem.specs.Log.{schedule}
+use Rattle.splice_run.specs.Log.{schedule}
 use Rattle.pair_theorem.specs.Past.{Past, Start, Step, first_past}
 
 -- the steps of some lines, from a past on

@@ -18,12 +18,15 @@ use Rattle.replay_log.specs.declared.records.Answer.TheVariants.{Accepted, Heard
 use Rattle.replay_log.specs.declared.records.Mark.{Mark}
 use Rattle.replay_log.specs.declared.records.Mark.TheVariants.{Captured, Committed, Acknowledged}
 use Rattle.replay_log.specs.declared.records.Record.{Record}
-use Rattle.pair_theorem.specs.Log.{is_report, released_count}
+use Rattle.pair_theorem.specs.Log.{is_report}
+use Rattle.splice_run.specs.Log.{has_primary_stop, released_count}
 use Rattle.pair_theorem.specs.Messages.{Message, Frame, State, Page, Disk, End, Ack, message_bytes}
 use Rattle.pair_theorem.specs.Past.{Past, Start, Step, is_primary_stop}
 use Rattle.pair_theorem.specs.Places.{Event, events}
-use Rattle.pair_theorem.specs.SingleRun.{Taken, has_primary_stop, secondary_turns, taken_turns, turns_of_primary, made_by_secondary}
-use Rattle.pair_theorem.specs.TheRun.{is_accepted, run_of, the_run}
+use Rattle.pair_theorem.specs.TheRun.{run_of, the_run}
+use Rattle.splice_run.specs.Runs.{is_accepted}
+use Rattle.splice_run.specs.Single.{secondary_turns, taken_turns}
+use Rattle.splice_run.specs.Tokens.{Taken, made_by_primary, made_by_secondary}
 
 -- LOG
 -- The log goes through the schedule, line by line to its end, and its answers state how many
@@ -98,7 +101,7 @@ is_accounted_for a steps i =
 -- pair accepted none is missing but by a full inbox, a stop, or because it still waits.
 pub record NamesPart (a : Start) (steps : List Step) : Type 0 where
   pub rising : IsStrictlyIncreasing (run_indices (entries steps))
-  pub accepted : All (λ i. IsTrue (is_accepted a i)) (run_indices (entries steps))
+  pub accepted : All (λ i. IsTrue (is_accepted a.stream i)) (run_indices (entries steps))
   pub missing : All (λ i. IsTrue (is_accounted_for a steps i)) (accepted_indices steps)
 
 -- MARKS
@@ -232,7 +235,7 @@ steps_due es = map (λ (e : Event). e.outcome.step) es
 -- the definitions give.
 pub record FilesPart (a : Start) (steps : List Step) (nodes : Nodes)
     (files : OutFiles) : Type 0 where
-  pub state : survivor_state (entries steps) nodes ≡ (the_run a (entries steps)).run.state
+  pub state : survivor_state (entries steps) nodes ≡ (the_run a (entries steps)).state
   pub ram : files.ram ≡ concat (survivor_state (entries steps) nodes).pages
   pub disk : files.disk ≡ concat (survivor_state (entries steps) nodes).sectors
   pub log : files.log ≡ log_bytes steps
@@ -241,6 +244,10 @@ pub record FilesPart (a : Start) (steps : List Step) (nodes : Nodes)
   pub messages : wire_bytes steps ≡ wire_bytes (steps_due (events a steps))
 
 -- GUESTS
+-- the turns that the records say each node made
+abbrev pub turns_of_primary : List Record → List Taken
+turns_of_primary log = flat_map (λ (r : Record). made_by_primary r.line r.answer) log
+
 abbrev pub turns_of_secondary : List Record → List Taken
 turns_of_secondary log = flat_map (λ (r : Record). made_by_secondary r.line r.answer) log
 
@@ -290,4 +297,4 @@ ToldPart a steps nodes =
 -- committed capture, and then its own turns.
 abbrev pub SecondaryPart : Start → List Step → Nodes → Type 0
 SecondaryPart a steps nodes =
-    nodes.secondary ≡ (run_of a (entries steps) (secondary_turns (entries steps))).run.state
+    nodes.secondary ≡ (run_of a (entries steps) (secondary_turns (entries steps))).state

@@ -14,7 +14,7 @@ use Rattle.replay_log.specs.declared.lines.Line.{Line}
 use Rattle.replay_log.specs.declared.records.Answer.{Answer}
 use Rattle.replay_log.specs.declared.records.Mark.{Mark}
 use Rattle.replay_log.specs.declared.records.Record.{Record}
-use Rattle.pair_theorem.specs.SingleRun.{Taken}
+use Rattle.splice_run.specs.Tokens.{Taken}
 use Rattle.frame_mirror.specs.declared.ring.Waiting.{Waiting}
 use Rattle.pair_theorem.specs.Messages.{Message}
 

@@ -7,7 +7,7 @@ use Rattle.replay_log.specs.declared.lines.Line.{Line}
 use Rattle.pair_theorem.specs.Log.{HasOneStop}
 use Rattle.pair_theorem.specs.LogParts.{files_of, nodes_at, FilesPart, GuestsPart, LogPart, MarksPart, NamesPart, Nodes, OutFiles, SecondaryPart, ToldPart}
 use Rattle.pair_theorem.specs.Past.{Start, Step}
-use Rattle.pair_theorem.specs.SingleRun.{has_primary_stop}
+use Rattle.splice_run.specs.Log.{has_primary_stop}
 use Rattle.pair_theorem.specs.Starts.{IsStart}
 
 -- The log names one run, and says truly what was released and when: nine parts, in the order in

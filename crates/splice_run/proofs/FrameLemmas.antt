@@ -4,7 +4,7 @@ use Rattle.std.proofs.lemmas.List.{take_more}
 use Rattle.tcp_track.specs.declared.openings.Opening.{Opening}
 use Rattle.replay_log.specs.declared.records.Record.{Record}
 use Rattle.splice_run.specs.declared.seen.ClientFrame.{ClientFrame}
-use Rattle.splice_run.specs.Frames.{client_frame, seen_first, seen_before, seen_of}
+use Rattle.splice_run.specs.Frames.{client_frame, seen_first, seen_before, seen_in}
 
 pub seen_push : (log : List Record) (r : Record) (index : ℕ) (later : Option (Option Opening)) →
     seen_before (log ++ r ∷ []) index later ≡ seen_before log index (seen_first (client_frame r) index later)
@@ -12,8 +12,8 @@ seen_push [] r index later = refl
 seen_push (q ∷ log) r index later = ap (λ (o : Option (Option Opening)). seen_first (client_frame q) index o)
     (seen_push log r index later)
 
-pub seen_all : (log : List Record) (index : ℕ) → seen_before log index None ≡ seen_of log index
-unfolding seen_of
+pub seen_all : (log : List Record) (index : ℕ) → seen_before log index None ≡ seen_in log index
+unfolding seen_in
 seen_all log index = refl
 
 -- one event more, nearer to the log's start

@@ -1,5 +1,5 @@
 -- The single run of a log that has a text has one too.
-use Rattle.std.proofs.Common.{◌≡◌, ℕ, ◌+◌, ◌≤◌, Bool, true, false, not, ◌&&◌, ◌==◌, if◌then◌else◌, List, [], ◌∷◌, ◌++◌, All, Option, Some, None, map, flat_map, reverse, length, nat_le, refl, sym, ap, subst, ◌∙◌, arith}
+use Rattle.std.proofs.Common.{◌≡◌, ℕ, Bool, true, false, not, ◌&&◌, ◌==◌, if◌then◌else◌, List, [], ◌∷◌, ◌++◌, All, Option, Some, None, map, flat_map, reverse, nat_le, refl, ap, subst, ◌∙◌, arith}
 use Rattle.std.specs.List.{Contains, list_all}
 use Rattle.std.proofs.lemmas.Bool.{and_parts, and_from, and_right, not_from_false}
 use Rattle.std.proofs.lemmas.List.{reverse-append}
@@ -8,10 +8,9 @@ use Rattle.std.proofs.lemmas.List.Folds.{list_all-append}
 use Rattle.tcp_track.specs.declared.openings.Opening.{Opening}
 use Rattle.replay_log.specs.Cases.{are_in_order, before_of, begins_with, stands_after, is_early_mark, is_second_stop, is_false_report}
 use Rattle.replay_log.specs.Forms.{log_forms, single_forms}
-use Rattle.replay_log.specs.Items.{frame_form, item_form, item_words, item_text, is_item_in_range}
+use Rattle.replay_log.specs.Items.{frame_form, item_words, item_text, is_item_in_range}
 use Rattle.replay_log.specs.Places.{most32, most64}
-use Rattle.replay_log.specs.Texts.{HasSpelling, IsText, IsLog, IsSingle, record_items, log_items, turn_text}
-use Rattle.replay_log.specs.declared.forms.Form.{Form}
+use Rattle.replay_log.specs.Texts.{HasSpelling, IsLog, IsSingle, record_items, log_items, turn_text}
 use Rattle.replay_log.specs.declared.forms.Form.TheVariants as form
 use Rattle.replay_log.specs.declared.items.Item.{Item}
 use Rattle.replay_log.specs.declared.items.Item.TheVariants as item
@@ -29,9 +28,10 @@ use Rattle.replay_log.specs.declared.turns.TurnFrame.{TurnFrame}
 use Rattle.replay_log.specs.declared.turns.TurnFrame.TheVariants as frame
 use Rattle.replay_log.proofs.GatheringLemmas.{log_cons}
 use Rattle.splice_run.specs.declared.seen.ClientFrame.{ClientFrame}
-use Rattle.splice_run.specs.Frames.{answer_frame, event_frame, client_frame, seen_first, seen_before, seen_of, frame_with, taken_frame}
-use Rattle.splice_run.specs.Single.{primary_turns, before_capture, spliced_turns, single_run}
-use Rattle.splice_run.specs.Tokens.{Token, by_primary, by_secondary, captures, commits, made_frame, turn_tokens, mark_tokens, tokens_in, tokens_with, has_stop}
+use Rattle.splice_run.specs.Frames.{answer_frame, event_frame, client_frame, seen_first, seen_before, seen_in, frame_with, taken_frame, turn_with}
+use Rattle.splice_run.specs.Single.{turns_by_primary, before_capture, spliced_turns, turns_by_marks, single_run}
+use Rattle.splice_run.specs.Log.{has_primary_stop}
+use Rattle.splice_run.specs.Tokens.{Taken, Token, by_primary, by_secondary, captures, commits, made_frame, turn_tokens, mark_tokens, record_tokens, tokens}
 
 -- ---- what is in range
 
@@ -41,9 +41,19 @@ is_event_in_range r = is_item_in_range (item.Event r.line r.answer)
 abbrev is_turn_in_range : Turn → Bool
 is_turn_in_range t = is_item_in_range (item.Turn t)
 
+-- the index of a frame that was taken
+abbrev is_index_in_range : Option ℕ → Bool
+is_index_in_range None = true
+is_index_in_range (Some index) = nat_le 0 index && nat_le index most64
+
+abbrev is_taken_in_range : Taken → Bool
+is_taken_in_range t =
+    (nat_le 0 t.clock && nat_le t.clock most32) && (is_index_in_range t.index && ((nat_le 0 t.blocks
+    && nat_le t.blocks 256) && (nat_le 0 t.steps && nat_le t.steps 100000)))
+
 abbrev is_token_in_range : Token → Bool
-is_token_in_range (by_primary t) = is_turn_in_range t
-is_token_in_range (by_secondary t) = is_turn_in_range t
+is_token_in_range (by_primary t) = is_taken_in_range t
+is_token_in_range (by_secondary t) = is_taken_in_range t
 is_token_in_range (captures e) = true
 is_token_in_range (commits e) = true
 
@@ -56,10 +66,9 @@ abbrev is_frame_in_range : Option ClientFrame → Bool
 is_frame_in_range None = true
 is_frame_in_range (Some f) = is_seen_in_range (Some f.seen)
 
-abbrev is_taken_in_range : Option (Option ℕ) → Bool
-is_taken_in_range None = true
-is_taken_in_range (Some None) = true
-is_taken_in_range (Some (Some index)) = nat_le 0 index && nat_le index most64
+abbrev is_made_in_range : Option (Option ℕ) → Bool
+is_made_in_range None = true
+is_made_in_range (Some index) = is_index_in_range index
 
 -- ---- the events of a log
 
@@ -129,27 +138,27 @@ before_in_range (r ∷ log) index h =
     (before_in_range log index both.1)
 
 seen_in_range : (log : List Record) → list_all is_event_in_range log ≡ true → (index : ℕ) →
-    is_seen_in_range (seen_of log index) ≡ true
-unfolding seen_of
+    is_seen_in_range (seen_in log index) ≡ true
+unfolding seen_in
 seen_in_range log h index = before_in_range log index h
 
 -- ---- turns
 
-taken_in_range : (l : Line) (a : Answer) → is_item_in_range (item.Event l a) ≡ true →
-    is_taken_in_range (made_frame a) ≡ true
-taken_in_range l answer.Nothing h = refl
-taken_in_range l (answer.Made None released) h = refl
-taken_in_range l (answer.Made (Some index) released) h = (and_parts (nat_le 0 index
+made_in_range : (l : Line) (a : Answer) → is_item_in_range (item.Event l a) ≡ true →
+    is_made_in_range (made_frame a) ≡ true
+made_in_range l answer.Nothing h = refl
+made_in_range l (answer.Made None released) h = refl
+made_in_range l (answer.Made (Some index) released) h = (and_parts (nat_le 0 index
     && nat_le index most64) _ (and_parts _ _ h).1).0
-taken_in_range l (answer.Accepted index seen trim released) h = refl
-taken_in_range l (answer.Arp index) h = refl
-taken_in_range l (answer.Dropped index why) h = refl
-taken_in_range l (answer.Full index) h = refl
-taken_in_range l (answer.Lost index) h = refl
-taken_in_range l (answer.Heard kind full) h = refl
-taken_in_range l (answer.HeardBack kind sent released) h = refl
-taken_in_range l answer.Zero h = refl
-taken_in_range l (answer.Reported released) h = refl
+made_in_range l (answer.Accepted index seen trim released) h = refl
+made_in_range l (answer.Arp index) h = refl
+made_in_range l (answer.Dropped index why) h = refl
+made_in_range l (answer.Full index) h = refl
+made_in_range l (answer.Lost index) h = refl
+made_in_range l (answer.Heard kind full) h = refl
+made_in_range l (answer.HeardBack kind sent released) h = refl
+made_in_range l answer.Zero h = refl
+made_in_range l (answer.Reported released) h = refl
 
 -- the numbers of a turn's line
 pub record IsInRange (d b n : ℕ) : Type 0 where
@@ -178,12 +187,29 @@ framed_turn d b n index (Some (Some o)) r i s =
     all_four _ _ _ _ r.clock (and_from (nat_le index most64) (nat_le o.client most32
     && nat_le o.own most32) small.1 s) r.requests r.steps
 
-turn_in_range : (seen : ℕ → Option (Option Opening)) (d b n : ℕ) (taken : Option ℕ) → ((index : ℕ) →
-    is_seen_in_range (seen index) ≡ true) → IsInRange d b n →
-    is_taken_in_range (Some taken) ≡ true → is_turn_in_range
-    (record { d = d; frame = taken_frame seen taken; b = b; n = n }) ≡ true
-turn_in_range seen d b n None s r t = all_three _ _ _ r.clock r.requests r.steps
-turn_in_range seen d b n (Some index) s r t = framed_turn d b n index (seen index) r t (s index)
+framed_in_range : (seen : ℕ → Option (Option Opening)) (d b n : ℕ) (index : Option ℕ) → ((i : ℕ) →
+    is_seen_in_range (seen i) ≡ true) → IsInRange d b n → is_index_in_range index ≡ true →
+    is_turn_in_range (record { d = d; frame = taken_frame seen index; b = b; n = n }) ≡ true
+framed_in_range seen d b n None s r t = all_three _ _ _ r.clock r.requests r.steps
+framed_in_range seen d b n (Some index) s r t = framed_turn d b n index (seen index) r t (s index)
+
+turn_in_range : (seen : ℕ → Option (Option Opening)) (t : Taken) → ((i : ℕ) → is_seen_in_range (seen i) ≡ true) →
+    is_taken_in_range t ≡ true → is_turn_in_range (turn_with seen t) ≡ true
+turn_in_range seen t s h =
+    let first = and_parts (nat_le 0 t.clock && nat_le t.clock most32) _ h in
+    let second = and_parts (is_index_in_range t.index) _ first.1 in
+    let third = and_parts (nat_le 0 t.blocks && nat_le t.blocks 256) _ second.1 in
+    framed_in_range seen t.clock t.blocks t.steps t.index s
+    (record { clock = first.0; requests = third.0; steps = third.1 }) second.0
+
+turns_in_range : (seen : ℕ → Option (Option Opening)) (turns : List Taken) → ((i : ℕ) →
+    is_seen_in_range (seen i) ≡ true) → list_all is_taken_in_range turns ≡ true →
+    list_all is_turn_in_range (map (turn_with seen) turns) ≡ true
+turns_in_range seen [] s h = refl
+turns_in_range seen (t ∷ turns) s h =
+    let both = and_parts (is_taken_in_range t) (list_all is_taken_in_range turns) h in
+    and_from (is_turn_in_range (turn_with seen t)) _ (turn_in_range seen t s both.0)
+    (turns_in_range seen turns s both.1)
 
 -- the numbers of a line of a turn
 line_numbers_in_range : (d b n : ℕ) (flag : Bool) → ((nat_le 0 d && nat_le d most32) && (flag && ((nat_le 0 b
@@ -196,23 +222,27 @@ line_numbers_in_range d b n flag h =
     let fourth = and_parts (nat_le 0 n && nat_le n 100000) true third.1 in
     record { clock = first.0; requests = third.0; steps = fourth.0 }
 
-tokens_of_turn : (seen : ℕ → Option (Option Opening)) (l : Line) (a : Answer) (made : Option (Option ℕ)) →
-    ((index : ℕ) → is_seen_in_range (seen index) ≡ true) →
-    is_item_in_range (item.Event l a) ≡ true → is_taken_in_range made ≡ true →
-    list_all is_token_in_range (turn_tokens seen l made) ≡ true
-tokens_of_turn seen (line.Primary d i b n) a None s h t = refl
-tokens_of_turn seen (line.Primary d i b n) a (Some taken) s h t =
-    and_from _ true (turn_in_range seen d b n taken s (line_numbers_in_range d b n _ (and_parts _ _ h).0) t) refl
-tokens_of_turn seen (line.Secondary d i b n) a None s h t = refl
-tokens_of_turn seen (line.Secondary d i b n) a (Some taken) s h t =
-    and_from _ true (turn_in_range seen d b n taken s (line_numbers_in_range d b n _ (and_parts _ _ h).0) t) refl
-tokens_of_turn seen line.Client a made s h t = refl
-tokens_of_turn seen line.ToSecondary a made s h t = refl
-tokens_of_turn seen line.ToPrimary a made s h t = refl
-tokens_of_turn seen line.StopPrimary a made s h t = refl
-tokens_of_turn seen line.StopSecondary a made s h t = refl
-tokens_of_turn seen line.Report a made s h t = refl
-tokens_of_turn seen line.Ask a made s h t = refl
+taken_is_in_range : (d b n : ℕ) (index : Option ℕ) → IsInRange d b n → is_index_in_range index ≡ true →
+    (is_taken_in_range (record { clock = d; index = index; blocks = b; steps = n }) && true) ≡ true
+taken_is_in_range d b n index r i =
+    and_from _ true (and_from _ _ r.clock (and_from _ _ i (and_from _ _ r.requests r.steps))) refl
+
+tokens_of_turn : (l : Line) (a : Answer) (made : Option (Option ℕ)) →
+    is_item_in_range (item.Event l a) ≡ true → is_made_in_range made ≡ true →
+    list_all is_token_in_range (turn_tokens l made) ≡ true
+tokens_of_turn (line.Primary d i b n) a None h t = refl
+tokens_of_turn (line.Primary d i b n) a (Some index) h t =
+    taken_is_in_range d b n index (line_numbers_in_range d b n _ (and_parts _ _ h).0) t
+tokens_of_turn (line.Secondary d i b n) a None h t = refl
+tokens_of_turn (line.Secondary d i b n) a (Some index) h t =
+    taken_is_in_range d b n index (line_numbers_in_range d b n _ (and_parts _ _ h).0) t
+tokens_of_turn line.Client a made h t = refl
+tokens_of_turn line.ToSecondary a made h t = refl
+tokens_of_turn line.ToPrimary a made h t = refl
+tokens_of_turn line.StopPrimary a made h t = refl
+tokens_of_turn line.StopSecondary a made h t = refl
+tokens_of_turn line.Report a made h t = refl
+tokens_of_turn line.Ask a made h t = refl
 
 marks_in_range : (marks : List Mark) → list_all is_token_in_range (mark_tokens marks) ≡ true
 marks_in_range [] = refl
@@ -224,40 +254,39 @@ joined : {X : Type 0} (p : X → Bool) (xs ys : List X) → list_all p xs ≡ tr
     list_all p (xs ++ ys) ≡ true
 joined p xs ys h g = list_all-append p xs ys ∙ and_from (list_all p xs) (list_all p ys) h g
 
-tokens_in_range : (seen : ℕ → Option (Option Opening)) (log : List Record) → ((index : ℕ) →
-    is_seen_in_range (seen index) ≡ true) → list_all is_event_in_range log ≡ true →
-    list_all is_token_in_range (tokens_with seen log) ≡ true
-tokens_in_range seen [] s h = refl
-tokens_in_range seen (r ∷ log) s h =
+tokens_in_range : (log : List Record) → list_all is_event_in_range log ≡ true →
+    list_all is_token_in_range (tokens log) ≡ true
+tokens_in_range [] h = refl
+tokens_in_range (r ∷ log) h =
     let both = and_parts (is_event_in_range r) (list_all is_event_in_range log) h in
-    joined is_token_in_range (tokens_in seen r) (tokens_with seen log)
-    (joined is_token_in_range (turn_tokens seen r.line (made_frame r.answer)) (mark_tokens r.marks)
-    (tokens_of_turn seen r.line r.answer (made_frame r.answer) s both.0 (taken_in_range r.line r.answer both.0))
+    joined is_token_in_range (record_tokens r) (tokens log)
+    (joined is_token_in_range (turn_tokens r.line (made_frame r.answer)) (mark_tokens r.marks)
+    (tokens_of_turn r.line r.answer (made_frame r.answer) both.0 (made_in_range r.line r.answer both.0))
     (marks_in_range r.marks))
-    (tokens_in_range seen log s both.1)
+    (tokens_in_range log both.1)
 
 -- ---- the run
 
-reversed : (tokens : List Token) → list_all is_token_in_range tokens ≡ true →
-    list_all is_token_in_range (reverse tokens) ≡ true
+reversed : (ts : List Token) → list_all is_token_in_range ts ≡ true →
+    list_all is_token_in_range (reverse ts) ≡ true
 reversed [] h = refl
-reversed (t ∷ tokens) h =
-    let both = and_parts (is_token_in_range t) (list_all is_token_in_range tokens) h in
-    ap (λ (ts : List Token). list_all is_token_in_range ts) (reverse-append (t ∷ []) tokens)
-    ∙ joined is_token_in_range (reverse tokens) (t ∷ []) (reversed tokens both.1) (and_from
+reversed (t ∷ ts) h =
+    let both = and_parts (is_token_in_range t) (list_all is_token_in_range ts) h in
+    ap (λ (xs : List Token). list_all is_token_in_range xs) (reverse-append (t ∷ []) ts)
+    ∙ joined is_token_in_range (reverse ts) (t ∷ []) (reversed ts both.1) (and_from
     (is_token_in_range t) true both.0 refl)
 
-primary_in_range : (tokens : List Token) → list_all is_token_in_range tokens ≡ true →
-    list_all is_turn_in_range (primary_turns tokens) ≡ true
+primary_in_range : (ts : List Token) → list_all is_token_in_range ts ≡ true →
+    list_all is_taken_in_range (turns_by_primary ts) ≡ true
 primary_in_range [] h = refl
-primary_in_range (by_primary t ∷ tokens) h =
-    let both = and_parts (is_turn_in_range t) (list_all is_token_in_range tokens) h in
-    and_from (is_turn_in_range t) (list_all is_turn_in_range (primary_turns tokens)) both.0
-    (primary_in_range tokens both.1)
-primary_in_range (by_secondary t ∷ tokens) h = primary_in_range tokens (and_parts (is_turn_in_range t)
-    (list_all is_token_in_range tokens) h).1
-primary_in_range (captures e ∷ tokens) h = primary_in_range tokens h
-primary_in_range (commits e ∷ tokens) h = primary_in_range tokens h
+primary_in_range (by_primary t ∷ ts) h =
+    let both = and_parts (is_taken_in_range t) (list_all is_token_in_range ts) h in
+    and_from (is_taken_in_range t) (list_all is_taken_in_range (turns_by_primary ts)) both.0
+    (primary_in_range ts both.1)
+primary_in_range (by_secondary t ∷ ts) h = primary_in_range ts (and_parts (is_taken_in_range t)
+    (list_all is_token_in_range ts) h).1
+primary_in_range (captures e ∷ ts) h = primary_in_range ts h
+primary_in_range (commits e ∷ ts) h = primary_in_range ts h
 
 at_capture : (b : Bool) (back before : List Token) → list_all is_token_in_range back ≡ true →
     list_all is_token_in_range before ≡ true →
@@ -268,37 +297,42 @@ at_capture false back before p q = q
 capture_in_range : (e : ℕ) (back : List Token) → list_all is_token_in_range back ≡ true →
     list_all is_token_in_range (before_capture e back) ≡ true
 capture_in_range e [] h = refl
-capture_in_range e (by_primary t ∷ back) h = capture_in_range e back (and_parts (is_turn_in_range t)
+capture_in_range e (by_primary t ∷ back) h = capture_in_range e back (and_parts (is_taken_in_range t)
     (list_all is_token_in_range back) h).1
-capture_in_range e (by_secondary t ∷ back) h = capture_in_range e back (and_parts (is_turn_in_range t)
+capture_in_range e (by_secondary t ∷ back) h = capture_in_range e back (and_parts (is_taken_in_range t)
     (list_all is_token_in_range back) h).1
 capture_in_range e (captures n ∷ back) h = at_capture (n == e) back (before_capture e back) h
     (capture_in_range e back h)
 capture_in_range e (commits n ∷ back) h = capture_in_range e back h
 
 spliced_in_range : (back : List Token) → list_all is_token_in_range back ≡ true →
-    list_all is_turn_in_range (spliced_turns back) ≡ true
+    list_all is_taken_in_range (spliced_turns back) ≡ true
 spliced_in_range [] h = refl
-spliced_in_range (by_primary t ∷ back) h = spliced_in_range back (and_parts (is_turn_in_range t)
+spliced_in_range (by_primary t ∷ back) h = spliced_in_range back (and_parts (is_taken_in_range t)
     (list_all is_token_in_range back) h).1
 spliced_in_range (by_secondary t ∷ back) h =
-    let both = and_parts (is_turn_in_range t) (list_all is_token_in_range back) h in
-    joined is_turn_in_range (spliced_turns back) (t ∷ []) (spliced_in_range back both.1) (and_from
-    (is_turn_in_range t) true both.0 refl)
+    let both = and_parts (is_taken_in_range t) (list_all is_token_in_range back) h in
+    joined is_taken_in_range (spliced_turns back) (t ∷ []) (spliced_in_range back both.1) (and_from
+    (is_taken_in_range t) true both.0 refl)
 spliced_in_range (captures e ∷ back) h = spliced_in_range back h
 spliced_in_range (commits e ∷ back) h = primary_in_range (reverse (before_capture e back)) (reversed
     (before_capture e back) (capture_in_range e back h))
 
-by_stop : (stops : Bool) (tokens : List Token) → list_all is_token_in_range tokens ≡ true →
-    list_all is_turn_in_range (if stops then spliced_turns (reverse tokens) else primary_turns tokens) ≡ true
-by_stop true tokens h = spliced_in_range (reverse tokens) (reversed tokens h)
-by_stop false tokens h = primary_in_range tokens h
+by_stop : (stops : Bool) (ts : List Token) → list_all is_token_in_range ts ≡ true →
+    list_all is_taken_in_range (if stops then spliced_turns (reverse ts) else turns_by_primary ts) ≡ true
+by_stop true ts h = spliced_in_range (reverse ts) (reversed ts h)
+by_stop false ts h = primary_in_range ts h
+
+taken_are_in_range : (log : List Record) → list_all is_event_in_range log ≡ true →
+    list_all is_taken_in_range (turns_by_marks log) ≡ true
+unfolding turns_by_marks
+taken_are_in_range log h = by_stop (has_primary_stop log) (tokens log) (tokens_in_range log h)
 
 run_in_range : (log : List Record) → list_all is_event_in_range log ≡ true →
     list_all is_turn_in_range (single_run log) ≡ true
 unfolding single_run
 run_in_range log h =
-    by_stop (has_stop log) (tokens_with (seen_of log) log) (tokens_in_range (seen_of log) log (seen_in_range log h) h)
+    turns_in_range (seen_in log) (turns_by_marks log) (seen_in_range log h) (taken_are_in_range log h)
 
 -- ---- its text
 

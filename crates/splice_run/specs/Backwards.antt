@@ -1,11 +1,12 @@
 -- A log that is read from its end: which turns count, token by token.
-use Rattle.std.specs.Prelude.{ℕ, Bool, true, false, ◌==◌, if◌then◌else◌, Option, List, [], ◌∷◌, ◌++◌}
+use Rattle.std.specs.Prelude.{ℕ, Bool, true, false, ◌==◌, if◌then◌else◌, Option, List, [], ◌∷◌, ◌++◌, map}
 use Rattle.replay_log.specs.declared.records.Mark.{Mark}
 use Rattle.replay_log.specs.declared.records.Mark.TheVariants.{Captured, Committed, Acknowledged}
 use Rattle.replay_log.specs.declared.turns.Turn.{Turn}
 use Rattle.tcp_track.specs.declared.openings.Opening.{Opening}
 use Rattle.replay_log.specs.declared.records.Record.{Record}
-use Rattle.splice_run.specs.Tokens.{Token, by_primary, by_secondary, captures, commits, made_frame, turn_tokens}
+use Rattle.splice_run.specs.Frames.{turn_with}
+use Rattle.splice_run.specs.Tokens.{Taken, Token, by_primary, by_secondary, captures, commits, made_frame, turn_tokens}
 use Rattle.splice_run.specs.declared.parts.Part.{Part}
 use Rattle.splice_run.specs.declared.parts.Part.TheVariants.{AfterCommit, Between, BeforeCapture}
 
@@ -41,13 +42,13 @@ takes_secondary AfterCommit = true
 takes_secondary (Between e) = false
 takes_secondary BeforeCapture = false
 
-abbrev pub counted : Part → Token → List Turn
+abbrev pub counted : Part → Token → List Taken
 counted part (by_primary t) = if takes_primary part then t ∷ [] else []
 counted part (by_secondary t) = if takes_secondary part then t ∷ [] else []
 counted part (captures e) = []
 counted part (commits e) = []
 
-abbrev pub all_counted : Part → List Token → List Turn
+abbrev pub all_counted : Part → List Token → List Taken
 all_counted part [] = []
 all_counted part (t ∷ tokens) = counted part t ++ all_counted part tokens
 
@@ -56,4 +57,5 @@ abbrev pub counted_back : (ℕ → Option (Option Opening)) → Part → List Re
 counted_back seen part [] = []
 counted_back seen part (r ∷ back) =
     let here = part_before_all part r.marks in
-    counted_back seen here back ++ all_counted here (turn_tokens seen r.line (made_frame r.answer))
+    counted_back seen here back
+    ++ map (turn_with seen) (all_counted here (turn_tokens r.line (made_frame r.answer)))

@@ -6,9 +6,11 @@ use Rattle.replay_log.specs.declared.lines.Line.TheVariants as line
 use Rattle.replay_log.specs.declared.records.Answer.{Answer}
 use Rattle.replay_log.specs.declared.records.Answer.TheVariants as answer
 use Rattle.replay_log.specs.declared.records.Record.{Record}
+use Rattle.replay_log.specs.declared.turns.Turn.{Turn}
 use Rattle.replay_log.specs.declared.turns.TurnFrame.{TurnFrame}
 use Rattle.replay_log.specs.declared.turns.TurnFrame.TheVariants as frame
 use Rattle.splice_run.specs.declared.seen.ClientFrame.{ClientFrame}
+use Rattle.splice_run.specs.Tokens.{Taken}
 
 -- the frame that an answer names
 abbrev pub answer_frame : Answer → Option ClientFrame
@@ -50,8 +52,8 @@ abbrev pub seen_before : List Record → ℕ → Option (Option Opening) → Opt
 seen_before [] index later = later
 seen_before (r ∷ log) index later = seen_first (client_frame r) index (seen_before log index later)
 
-unfoldable pub seen_of : List Record → ℕ → Option (Option Opening)
-seen_of log index = seen_before log index None
+unfoldable pub seen_in : List Record → ℕ → Option (Option Opening)
+seen_in log index = seen_before log index None
 
 -- the frame of a turn: with the opening, where a client event names one
 abbrev pub frame_with : ℕ → Option (Option Opening) → TurnFrame
@@ -62,3 +64,8 @@ frame_with index (Some (Some opening)) = frame.Seen index opening
 abbrev pub taken_frame : (ℕ → Option (Option Opening)) → Option ℕ → TurnFrame
 taken_frame seen None = frame.Absent
 taken_frame seen (Some index) = frame_with index (seen index)
+
+-- a turn that a log names, with its frame
+abbrev pub turn_with : (ℕ → Option (Option Opening)) → Taken → Turn
+turn_with seen t =
+    record { d = t.clock; frame = taken_frame seen t.index; b = t.blocks; n = t.steps }

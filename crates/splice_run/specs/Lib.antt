@@ -1,4 +1,6 @@
-pub mod Frames
+pub mod Log
 pub mod Tokens
+pub mod Frames
 pub mod Single
 pub mod Backwards
+pub mod Runs

@@ -3,11 +3,12 @@
 ghost use Rattle.std.specs.Prelude.{◌≡◌, ℕ, List, flat_map};
 ghost use Rattle.replay_log.specs.Texts.{IsLog, IsSingle, turn_text};
 ghost use Rattle.replay_log.specs.declared.records.Record.{Record};
-ghost use Rattle.splice_run.specs.Single.{single_run, single_fold};
+ghost use Rattle.splice_run.specs.Single.{single_run, taken_turns, turns_by_marks};
 
-/// A law: the single run by the positions of a log's marks is its fold, on every log.
+/// A law: the turns of the single run by the positions of a log's marks are those of its fold, on
+/// every log.
 pub fn splices_by_marks()
-    ensures { (log : List Record) → single_fold log ≡ single_run log }
+    ensures { (log : List Record) → taken_turns log ≡ turns_by_marks log }
 {}
 
 /// A law: the single run of a log that has a text has one too, the join of its turns' lines. So it

@@ -1,4 +1,4 @@
-//! The single run that a log names: the turns that one machine makes again.
+//! The single run that a log names, and the run of turns with given frames.
 #![tactic(auto)]
 
 mod law;

@@ -1,11 +1,13 @@
 //! The parts of a log that is read from its end.
 
-ghost use Rattle.std.specs.Prelude.{◌≡◌};
+ghost use Rattle.std.specs.Prelude.{◌≡◌, map};
 ghost use Rattle.std.specs.Option.{option_to_list};
 ghost use Rattle.std.specs.BTreeMap.{get};
 ghost use Rattle.std.specs.Ordering.{nat_cmp};
 ghost use Rattle.splice_run.specs.Backwards.{part_before, part_before_all, takes_primary, takes_secondary, all_counted};
-ghost use Rattle.splice_run.specs.Tokens.{made_frame, turn_tokens, stops_primary};
+ghost use Rattle.splice_run.specs.Frames.{turn_with};
+ghost use Rattle.splice_run.specs.Log.{stops_primary};
+ghost use Rattle.splice_run.specs.Tokens.{made_frame, turn_tokens};
 
 use crate::seen::{Seen, taken_frame};
 use replay_log::{Answer, Line, Mark, Record, Turn};
@@ -72,8 +74,8 @@ fn made_frame(answer: Answer) -> Option<Option<u64>>
 
 /// The turn of an event of this part, where it was made and counts.
 pub fn counted_turn(part: Part, seen: &Seen, record: &Record) -> Option<Turn>
-    ensures { option_to_list result ≡ all_counted part (turn_tokens
-        (get nat_cmp seen.now) record.now.line (made_frame record.now.answer)) }
+    ensures { option_to_list result ≡ map (turn_with (get nat_cmp seen.now))
+        (all_counted part (turn_tokens record.now.line (made_frame record.now.answer))) }
 {
     let taken = made_frame(record.answer)?;
     match record.line {

@@ -3,7 +3,7 @@
 ghost use Rattle.std.specs.Prelude.{◌≡◌, ℕ, IfOk, OnOk};
 ghost use Rattle.std.specs.BTreeMap.{get};
 ghost use Rattle.std.specs.Ordering.{nat_cmp};
-ghost use Rattle.splice_run.specs.Frames.{answer_frame, client_frame, seen_first, seen_of, taken_frame};
+ghost use Rattle.splice_run.specs.Frames.{answer_frame, client_frame, seen_first, seen_in, taken_frame};
 
 use colo_base::NoMemory;
 use replay_log::{Answer, Line, Record, TurnFrame};
@@ -63,7 +63,7 @@ fn tell(seen: &mut Seen, frame: Option<ClientFrame>) -> Result<(), NoMemory>
 
 /// The openings that the log's client events tell, of each index the first.
 pub fn seen_in(alloc: Global, log: &[Record]) -> Result<Seen, NoMemory>
-    ensures { IfOk result (λ seen. (index : ℕ) → get nat_cmp seen index ≡ seen_of log.now index) }
+    ensures { IfOk result (λ seen. (index : ℕ) → get nat_cmp seen index ≡ seen_in log.now index) }
 {
     let mut seen = BTreeMap::new(alloc);
     let mut end = log.len();

@@ -3,7 +3,7 @@
 ghost use Rattle.std.specs.Prelude.{◌≡◌, IfOk};
 ghost use Rattle.std.specs.List.{list_any};
 ghost use Rattle.splice_run.specs.Single.{single_run};
-ghost use Rattle.splice_run.specs.Tokens.{has_stop};
+ghost use Rattle.splice_run.specs.Log.{has_primary_stop};
 
 use crate::parts::{Part, counted_turn, part_before_all, stops_primary};
 use crate::seen::seen_in;
@@ -12,8 +12,8 @@ use replay_log::{Record, Turn};
 use std::alloc::Global;
 
 /// Whether the primary stops.
-fn has_stop(log: &[Record]) -> bool
-    ensures { result ≡ has_stop log.now }
+fn has_primary_stop(log: &[Record]) -> bool
+    ensures { result ≡ has_primary_stop log.now }
 {
     log.iter().any(|record| stops_primary(record.line))
 }
@@ -27,7 +27,7 @@ pub fn splice(alloc: Global, log: &[Record]) -> Result<Vec<Turn>, NoMemory>
     ensures { IfOk result (λ turns. turns.items ≡ single_run log.now) }
 {
     let seen = seen_in(alloc, log)?;
-    let mut part = if has_stop(log) {
+    let mut part = if has_primary_stop(log) {
         Part::AfterCommit
     } else {
         Part::BeforeCapture

@@ -4,19 +4,19 @@ use Rattle.std.specs.BTreeMap.{get}
 use Rattle.std.specs.Ordering.{nat_cmp}
 use Rattle.std.proofs.lemmas.List.{take_all}
 use Rattle.splice_run.specs.Backwards.{counted_back}
-use Rattle.splice_run.specs.Tokens.{has_stop}
+use Rattle.splice_run.specs.Log.{has_primary_stop}
 use Rattle.splice_run.specs.declared.parts.Part.{Part}
 use Rattle.splice_run.proofs.BackLemmas.{last_part, all_counted_back}
-use Rattle.splice_run.proofs.splicing.splice.Goals.{then-has_stop, else-has_stop}
+use Rattle.splice_run.proofs.splicing.splice.Goals.{then-has_primary_stop, else-has_primary_stop}
 use Rattle.splice_run.proofs.splicing.splice.Goals as goal
 
 pub loop-end-init : goal.loop-end-init
 loop-end-init c =
     let log = c.args.log.now in
-    let part : c.if-has_stop.part ≡ last_part (has_stop log) =
-    elim c.if-has_stop.branch [
-      | then-has_stop w ↦ w.part-is ∙ sym (ap last_part (sym c.has_stop.ensures ∙ w.if-has_stop.true))
-      | else-has_stop w ↦ w.part-is ∙ sym (ap last_part (sym c.has_stop.ensures ∙ w.if-has_stop.false))
+    let part : c.if-has_primary_stop.part ≡ last_part (has_primary_stop log) =
+    elim c.if-has_primary_stop.branch [
+      | then-has_primary_stop w ↦ w.part-is ∙ sym (ap last_part (sym c.has_primary_stop.ensures ∙ w.if-has_primary_stop.true))
+      | else-has_primary_stop w ↦ w.part-is ∙ sym (ap last_part (sym c.has_primary_stop.ensures ∙ w.if-has_primary_stop.false))
     ] in
     record {
       within = omega arith;
