@@ -27,6 +27,24 @@ ends() {
 ends 1 usage replay a
 ends 6 "read failed" replay missing missing missing missing out/run
 ends 0 "bytes 88" image mute out/mute.elf
+for name in echo clocked disk_log; do
+    "$colo" image "$name" "out/$name.elf" > out/printed
+    [ "$(cat out/printed)" = "bytes $(wc -c < "out/$name.elf")" ] || { echo "image $name: $(cat out/printed)" >&2; exit 1; }
+done
+ends 1 usage image Echo out/echo.elf
+head -c 513 /dev/zero > out/long
+head -c 512 /dev/zero > out/disk
+: > out/client
+printf 'P 10 0 0 5\nP 20 0 0 7\n' > out/turns
+ends 3 "disk: 513" replay out/mute.elf out/long out/client out/turns out/run
+printf '\0\1\20\1' > out/cut
+ends 5 "client: 0" replay out/mute.elf out/disk out/cut out/turns out/run
+printf 'x p\nx s\n' > out/stops
+ends 4 "line 2" replay out/mute.elf out/disk out/client out/stops out/run
+ends 2 "image: 1" replay out/turns out/disk out/client out/turns out/run
+ends 0 "lines 2 released 0 captured 0" replay out/mute.elf out/disk out/client out/turns out/run
+ends 0 "turns 2" splice out/run.log out/run.single
+printf 'T 10 - 0 5\nT 20 - 0 7\n' | cmp - out/run.single
 ends 7 "write failed" image mute missing/mute.elf
 echo "statuses and the demo image: as they must be"
 

@@ -1,7 +1,7 @@
 //! `colo`: carries out the command that its words spell, and ends with its status.
 #![tactic(auto)]
 
-use colo_base::{FileShelf, MemoryLink, NoMemory, OutSink, ScriptClock, Sink};
+use colo_base::{FileShelf, MemoryLink, NoMemory, OutSink, ScriptClock};
 use colo_top::{Fault, colo};
 use std::env;
 use std::io::ErrorKind;
@@ -27,7 +27,7 @@ fn words(rt: &(impl Env + AllocGlobal)) -> Result<Vec<String>, NoMemory> {
 fn main(rt: HostRuntime) -> ExitCode {
     let mut out = OutSink::new(&rt);
     let Ok(words) = words(&rt) else {
-        let _ = out.put(Fault::NoMemory.line().as_bytes());
+        let _ = Fault::NoMemory.put(&mut out);
         return ExitCode::from(Fault::NoMemory.status());
     };
     let mut shelf = FileShelf::new(&rt);

@@ -1,7 +1,7 @@
 //! An image by its name, as an ELF file.
 
 ghost use Rattle.std.specs.Prelude.{◌≡◌, ◌≤◌, ◌<◌, ◌^◌, ◌+◌, ◌*◌, ℕ, ◌++◌, None, length};
-ghost use Rattle.std.specs.Prelude.{OnOk, IfOk, IfSome, option_map};
+ghost use Rattle.std.specs.Prelude.{OnOk, IfOk, IfSome, option_map, is_some};
 ghost use Rattle.std.specs.Int.{w32, to_le_bytes};
 ghost use Rattle.std.specs.List.{flat_map};
 ghost use Rattle.std.specs.Option.{option_copied};
@@ -65,6 +65,13 @@ fn words_of(name: &str) -> Option<&'static [u32]>
     } else {
         None
     }
+}
+
+/// Whether there is a guest with this name.
+pub fn has_image(name: &str) -> bool
+    ensures { result ≡ is_some (image name.now) }
+{
+    words_of(name).is_some()
 }
 
 /// The image of the guest with this name, `mute`, `echo`, `clocked` or `disk_log`; `None` for any

@@ -8,4 +8,4 @@ mod tests;
 mod texts;
 mod words;
 
-pub use images::image;
+pub use images::{has_image, image};

@@ -1,41 +1,39 @@
 -- From how a command ends to what is promised of the call.
-use Rattle.std.proofs.Common.{◌≡◌, ℕ, List, [], ◌∷◌, ◌++◌, Option, Some, None, IsTrue, ◌⊎◌, inl, inr, refl, sym, ap, ◌∙◌, subst, fold}
-use Rattle.std.proofs.lemmas.List.Sums.{fold-append}
+use Rattle.std.proofs.Common.{◌≡◌, ℕ, List, Option, Some, None, IsTrue, ◌⊎◌, inl, inr, refl, sym, ap, ◌∙◌, subst}
 use Rattle.colo_base.specs.Count.{Increased}
 use Rattle.colo_base.specs.Shelf.{ShelfState, ChangesOnly}
 use Rattle.colo_base.specs.Sink.{Puts, PutsPart, SinkGoesOn}
 use Rattle.colo_base.proofs.StateLemmas.{changes_wider}
-use Rattle.elf_load.specs.Boot.{elf_case}
 use Rattle.colo_top.specs.declared.fault.Fault.{Fault}
-use Rattle.colo_top.specs.declared.fault.Fault.TheVariants.{Usage, Image, Read, Write, NoMemory, NotBuilt}
-use Rattle.colo_top.specs.declared.schedule.Turn.{Turn}
-use Rattle.colo_top.specs.Boot.{boot_state, ram_size}
-use Rattle.colo_top.specs.Command.{out_of, outputs_of}
+use Rattle.colo_top.specs.declared.fault.Fault.TheVariants.{Usage, Refused, Read, Write, NoMemory}
+use Rattle.colo_top.specs.declared.fault.Refusal.{Refusal}
+use Rattle.colo_top.specs.declared.fault.Refusal.TheVariants.{BadImage, BadDisk, BadLine, BadClient, NotBuilt}
+use Rattle.colo_top.specs.Boot.{boot_state}
+use Rattle.colo_top.specs.Command.{out_of, outputs_of, reads}
 use Rattle.colo_top.specs.Files.{IsFileOf, KeepsFiles, WritesOnly}
 use Rattle.colo_top.specs.Machine.{State}
-use Rattle.colo_top.specs.Outcome.{IsDone, IsCutOff, BadImage, UnsupportedInput, UnsupportedStep, StoppedAtStep, CanComplete, IsUntouched, FailsBy, Fails, Succeeds}
-use Rattle.colo_top.specs.Reading.{IsNotBuilt, Texts}
+use Rattle.colo_top.specs.Outcome.{IsDone, IsCutOff, Judges, Stops, IsUntouched, FailsBy, Fails, Succeeds}
+use Rattle.colo_top.specs.Reading.{IsMissing, Texts}
 use Rattle.colo_top.specs.Replay.{IsReady, Prepared}
-use Rattle.colo_top.specs.Run.{run_from, next_state}
-use Rattle.colo_top.specs.Status.{status, line}
-use Rattle.colo_top.specs.Top.{Call, Prints, Means, Gives, OnBadImage, OnUnsupportedInput, OnUnsupportedStep, OnCompletion, NoFailure, IsWritten, Ends}
-use Rattle.colo_top.specs.Words.{Command, replay_command, image_command, ReplayWords, read_words}
+use Rattle.colo_top.specs.Run.{run_from}
+use Rattle.colo_top.specs.Status.{status, line, refusal_status, refusal_line}
+use Rattle.colo_top.specs.Tests.{TestRun, TestSchedule, TestLog}
+use Rattle.colo_top.specs.Top.{Call, Prints, Means, EndsBy, Gives, OnMissing, OnRefusal, OnStop, OnCompletion, NothingAgainst, IsWritten, Ends}
+use Rattle.colo_top.specs.Words.{Command, replay_command, splice_command, image_command, RunWords, read_words}
 use Rattle.colo_top.proofs.BootLemmas.{no_case_at_boot}
 use Rattle.colo_top.proofs.RunLemmas.{run_of_log}
 use Rattle.colo_top.proofs.SameLemmas.{same_file, same_texts, same_schedule}
+use Rattle.colo_top.proofs.TestLemmas.{One, some_none, one_refusal, one_schedule_test, one_log_test, one_run, image_none, disk_none, client_none, schedule_none}
 
 -- ---- what is prepared is one run
 
 same_state : (o : Option State) (s t : State) → o ≡ Some s → o ≡ Some t → s ≡ t
 same_state o s t p q = cc
 
-no_number : (o : Option ℕ) (number : ℕ) → o ≡ None → o ≡ Some number → ⊥
-no_number o number p q = cc
-
 no_state : (o : Option State) (s : State) → o ≡ None → o ≡ Some s → ⊥
 no_state o s p q = cc
 
-prepared_run : (c : ReplayWords) (s : ShelfState) → IsTrue s.observable → (p q : Prepared c s)
+prepared_run : (c : RunWords) (s : ShelfState) → IsTrue s.observable → (p q : Prepared c s)
     → run_from p.boot p.turns ≡ run_from q.boot q.turns
 prepared_run c s seen p q =
     let P : Texts → Type 0 = λ texts. IsReady c.mib texts p.turns p.boot in
@@ -43,99 +41,92 @@ prepared_run c s seen p q =
     ap (λ boot. run_from boot p.turns) (same_state
     (boot_state c.mib q.texts.image q.texts.disk) p.boot q.boot ready.booted q.ready.booted)
     ∙ ap (λ turns. run_from q.boot turns)
-    (same_schedule q.texts.schedule p.turns q.turns ready.schedule q.ready.schedule)
+    (same_schedule q.texts.lines p.turns q.turns ready.schedule q.ready.schedule)
 
-none_after : (turns : List Turn) → fold next_state None turns ≡ None
-none_after [] = refl
-none_after (t ∷ ts) = none_after ts
+-- ---- one judgement
 
--- a run that comes to a step that isn't built has no last state
-stopped_all : (boot : State) (front back : List Turn) (turn : Turn) → run_from boot (front ++ (turn ∷ [])) ≡ None
-    → run_from boot (front ++ (turn ∷ back)) ≡ None
-unfolding run_from
-stopped_all boot front back turn e =
-    fold-append next_state (Some boot) front (turn ∷ back)
-    ∙ (ap (λ s. fold next_state s back) (sym (fold-append next_state (Some boot) front (turn ∷ [])) ∙ e)
-    ∙ none_after back)
+no_bytes : (o : Option (List ℕ)) (bytes : List ℕ) → o ≡ Some bytes → o ≡ None → ⊥
+no_bytes o bytes p q = cc
 
--- ---- what speaks against what
+-- what was judged was there
+judged_there : (command : Command) (s : ShelfState) (found : Option Refusal) → IsTrue s.observable
+    → Judges command s found → IsMissing s (reads command) → ⊥
+judged_there (replay_command c) s found seen (texts, read, p) (inl none) =
+    no_bytes (s.contents c.image) texts.image (read.image seen) none
+judged_there (replay_command c) s found seen (texts, read, p) (inr (inl none)) =
+    no_bytes (s.contents c.disk) texts.disk (read.disk seen) none
+judged_there (replay_command c) s found seen (texts, read, p) (inr (inr (inl none))) =
+    no_bytes (s.contents c.client) texts.client (read.client seen) none
+judged_there (replay_command c) s found seen (texts, read, p) (inr (inr (inr (inl none)))) =
+    no_bytes (s.contents c.lines) texts.lines (read.lines seen) none
+judged_there (replay_command c) s found seen (texts, read, p) (inr (inr (inr (inr none)))) = none
+judged_there (splice_command c) s found seen (text, read, p) (inl none) = no_bytes (s.contents c.log) text (read seen) none
+judged_there (splice_command c) s found seen (text, read, p) (inr none) = none
+judged_there (image_command c) s found seen p none = none
 
--- the command got past its tests
-abbrev Good : Command → ShelfState → Type 0
-Good (replay_command c) s = Prepared c s
-Good (image_command c) s = Unit {0}
+-- the tests find one thing
+one_judgement : (command : Command) (s : ShelfState) → IsTrue s.observable → One (λ found. Judges command s found)
+one_judgement (replay_command c) s seen a b (t, read, p) (u, again, q) =
+    let P : Texts → Type 0 = λ x. TestRun c.mib (TestSchedule x.lines) x a in
+    one_run c.mib (TestSchedule u.lines) u (one_schedule_test u.lines) a b
+    (subst P (same_texts s c t u seen read again) p) q
+one_judgement (splice_command c) s seen a b (t, read, p) (u, again, q) =
+    let P : List ℕ → Type 0 = λ text. TestLog text a in
+    one_log_test u a b (subst P (same_file s c.log t u seen read again) p) q
+one_judgement (image_command c) s seen a b p q = p ∙ sym q
 
-good_done : (command : Command) (old new : ShelfState) (text : List ℕ) → IsDone command old new text → Good command old
-good_done (replay_command c) old new text work = work.prepared
-good_done (image_command c) old new text work = tt
+-- ---- what was prepared, done or cut off passed the tests
 
-good_cut : (command : Command) (old new : ShelfState) → IsCutOff command old new → Good command old
-good_cut (replay_command c) old new work = work.prepared
-good_cut (image_command c) old new work = tt
+prepared_judged : (c : RunWords) (s : ShelfState) → Prepared c s → Judges (replay_command c) s None
+prepared_judged c s p =
+    let t = p.texts in
+    let ready = p.ready in (
+      t,
+      p.read,
+      inr (
+        image_none c.mib t.image (no_case_at_boot c.mib t.image t.disk p.boot ready.booted),
+        inr (
+          disk_none t.disk ready.disk,
+          inr (client_none t.client ready.frames ready.client, schedule_none t.lines p.turns ready.schedule),
+        ),
+      ),
+    )
 
-good_stopped : (command : Command) (old new : ShelfState) → StoppedAtStep command old new → Good command old
-good_stopped (replay_command c) old new work = work.prepared
-good_stopped (image_command c) old new work = tt
+done_judged : (command : Command) (old new : ShelfState) (text : List ℕ) → IsDone command old new text
+    → Judges command old None
+done_judged (replay_command c) old new text work = prepared_judged c old work.prepared
+done_judged (splice_command c) old new text work =
+    (work.from.text, work.from.read, inr (work.from.log, work.from.spelled, refl))
+done_judged (image_command c) old new text work = refl
 
-good_step : (command : Command) (s : ShelfState) → UnsupportedStep command s → Good command s
-good_step (replay_command c) s step = step.prepared
-good_step (image_command c) s step = tt
+cut_judged : (command : Command) (old new : ShelfState) → IsCutOff command old new → Judges command old None
+cut_judged (replay_command c) old new work = prepared_judged c old work.prepared
+cut_judged (splice_command c) old new work =
+    (work.from.text, work.from.read, inr (work.from.log, work.from.spelled, refl))
+cut_judged (image_command c) old new work = refl
 
-good_can : (command : Command) (s : ShelfState) → CanComplete command s → Good command s
-good_can (replay_command c) s can = can.prepared
-good_can (image_command c) s can = tt
+stop_judged : (command : Command) (s : ShelfState) (refusal : Refusal) → Stops command s refusal → Judges command s None
+stop_judged (replay_command c) s refusal stop = prepared_judged c s stop.1.prepared
+stop_judged (splice_command c) s refusal stop = absurd stop
+stop_judged (image_command c) s refusal stop = absurd stop
 
-good_image : (command : Command) (s : ShelfState) (number : ℕ) → IsTrue s.observable → Good command s
-    → BadImage command s number → ⊥
-good_image (replay_command c) s number seen good bad =
-    let P : List ℕ → Type 0 = λ image. elf_case (ram_size c.mib) image ≡ Some number in
-    no_number (elf_case (ram_size c.mib) good.texts.image) number
-    (no_case_at_boot c.mib good.texts.image good.texts.disk good.boot good.ready.booted)
-    (subst P (same_file s c.image bad.image good.texts.image seen bad.read good.read.image) bad.first)
-good_image (image_command c) s number seen good bad = bad
+-- ---- what stops a run
 
-ready_built : (mib : ℕ) (texts : Texts) (turns : List Turn) (boot : State) → IsReady mib texts turns boot
-    → IsNotBuilt texts → ⊥
-ready_built mib texts turns boot ready (inl no_disk) = no_disk ready.disk
-ready_built mib texts turns boot ready (inr (inl sends)) = sends ready.client
-ready_built mib texts turns boot ready (inr (inr none)) = none turns ready.schedule
+one_stop : (command : Command) (s : ShelfState) (a b : Refusal) → Stops command s a → Stops command s b → a ≡ b
+one_stop (replay_command c) s a b p q = p.0 ∙ sym q.0
+one_stop (splice_command c) s a b p q = absurd p
+one_stop (image_command c) s a b p q = absurd p
 
-good_input : (command : Command) (s : ShelfState) → IsTrue s.observable → Good command s
-    → UnsupportedInput command s → ⊥
-good_input (replay_command c) s seen good bad =
-    let P : Texts → Type 0 = λ texts. IsNotBuilt texts in
-    ready_built c.mib good.texts good.turns good.boot good.ready (subst P
-    (same_texts s c bad.texts good.texts seen bad.read good.read) bad.why)
-good_input (image_command c) s seen good bad = bad
-
-one_refusal : (command : Command) (s : ShelfState) (number : ℕ) → IsTrue s.observable → BadImage command s number
-    → UnsupportedInput command s → ⊥
-one_refusal (replay_command c) s number seen bad input =
-    let P : List ℕ → Type 0 = λ image. elf_case (ram_size c.mib) image ≡ Some number in
-    no_number (elf_case (ram_size c.mib) input.texts.image) number input.none (subst P
-    (same_file s c.image bad.image input.texts.image seen bad.read input.read.image) bad.first)
-one_refusal (image_command c) s number seen bad input = bad
-
-done_step : (command : Command) (old new : ShelfState) (text : List ℕ) → IsTrue old.observable
-    → IsDone command old new text → UnsupportedStep command old → ⊥
-done_step (replay_command c) old new text seen work step =
-    let run = work.run in
-    let progress = run.progress in
-    no_state (run_from step.prepared.boot step.prepared.turns) progress.last step.stopped
-    (prepared_run c old seen step.prepared work.prepared
+done_stop : (command : Command) (old new : ShelfState) (text : List ℕ) (refusal : Refusal) → IsTrue old.observable
+    → IsDone command old new text → Stops command old refusal → ⊥
+done_stop (replay_command c) old new text refusal seen work (same, stop) =
+    let progress = work.run.progress in
+    no_state (run_from stop.prepared.boot stop.prepared.turns) progress.last stop.stopped
+    (prepared_run c old seen stop.prepared work.prepared
     ∙ (ap (λ turns. run_from work.prepared.boot turns) (sym
     (run_of_log work.prepared.turns progress.log progress.logged)) ∙ progress.ran))
-done_step (image_command c) old new text seen work step = step
-
-can_stop : (command : Command) (old new : ShelfState) → IsTrue old.observable → CanComplete command old
-    → StoppedAtStep command old new → ⊥
-can_stop (replay_command c) old new seen can stopped =
-    let run = stopped.run in
-    no_state (run_from stopped.prepared.boot stopped.prepared.turns) can.last (ap
-    (λ turns. run_from stopped.prepared.boot turns) run.split
-    ∙ stopped_all stopped.prepared.boot run.front run.back run.turn run.stopped)
-    (prepared_run c old seen stopped.prepared can.prepared ∙ can.ran)
-can_stop (image_command c) old new seen can stopped = stopped
+done_stop (splice_command c) old new text refusal seen work stop = stop
+done_stop (image_command c) old new text refusal seen work stop = stop
 
 -- ---- the words spell one command
 
@@ -169,8 +160,9 @@ kept P old new files = changes_wider (λ name. ⊥) P old new (λ name none. abs
 fails_change : (command : Command) (old new : ShelfState) (fault : Fault) → FailsBy command old new fault
     → ChangesOnly (IsFileOf (out_of command) (outputs_of command)) old new
 fails_change command old new Usage why = absurd why
-fails_change command old new (Image number) why =
-    kept (IsFileOf (out_of command) (outputs_of command)) old new why.1.files
+fails_change command old new (Refused refusal) (inl tests) =
+    kept (IsFileOf (out_of command) (outputs_of command)) old new tests.files.files
+fails_change command old new (Refused refusal) (inr run) = run.change.only
 fails_change command old new Read why = kept (IsFileOf (out_of command) (outputs_of command)) old new why.files
 fails_change command old new Write why = why.change.only
 fails_change command old new NoMemory why = by why.files
@@ -179,9 +171,6 @@ fails_change command old new NoMemory why = by why.files
         → ChangesOnly (IsFileOf (out_of command) (outputs_of command)) old new
     by (inl files) = kept (IsFileOf (out_of command) (outputs_of command)) old new files
     by (inr cut) = cut.1.only
-fails_change command old new NotBuilt (inl input) =
-    kept (IsFileOf (out_of command) (outputs_of command)) old new input.1.files
-fails_change command old new NotBuilt (inr step) = step.1.only
 
 -- ---- the two ways to end
 
@@ -198,19 +187,19 @@ pub ends_done : (call : Call) (text : List ℕ) → Succeeds call.words call.bef
 ends_done call text (command, spelled, work) put sink = record {
   means = means put;
   finds_no_command = λ none. absurd (no_command (read_words call.words) command none spelled);
-  finds_bad_image = λ number. gives_at call _ OnBadImage command spelled (λ seen bad. absurd
-      (good_image command call.before.shelf number seen good bad));
-  finds_unsupported_input = gives_at call _ OnUnsupportedInput command spelled (λ seen bad. absurd
-      (good_input command call.before.shelf seen good bad));
-  finds_unsupported_step = gives_at call _ OnUnsupportedStep command spelled (λ seen step. absurd
-      (done_step command call.before.shelf call.after.shelf text seen work.work step));
-  completes = gives_at call _ OnCompletion command spelled (λ seen can. whole put can.1.puts);
+  finds_missing = gives_at call _ OnMissing command spelled (λ seen missing. absurd
+      (judged_there command call.before.shelf None seen good missing));
+  finds_refusal = λ refusal. gives_at call _ (OnRefusal refusal) command spelled (λ seen bad. absurd
+      (some_none refusal (one_judgement command call.before.shelf seen (Some refusal) None bad good)));
+  finds_stop = λ refusal. gives_at call _ (OnStop refusal) command spelled (λ seen stop. absurd
+      (done_stop command call.before.shelf call.after.shelf text refusal seen work.work stop));
+  completes = gives_at call _ OnCompletion command spelled (λ seen fine. whole put fine.puts);
   other_files = written call command spelled work.change.only;
   sink = sink;
 }
   where
-    good : Good command call.before.shelf
-    good = good_done command call.before.shelf call.after.shelf text work.work
+    good : Judges command call.before.shelf None
+    good = done_judged command call.before.shelf call.after.shelf text work.work
 
     means : WasPut call text → Means call call.status
     means (inl p) = let P : ℕ → Type 0 = λ s. Means call s in subst P (sym p.0) (
@@ -237,9 +226,9 @@ ends_usage call none untouched is put sink =
     record {
       means = subst P (sym is) (record { words = none; files = untouched; put = put });
       finds_no_command = λ same. is;
-      finds_bad_image = λ number. gives_none call _ OnBadImage none;
-      finds_unsupported_input = gives_none call _ OnUnsupportedInput none;
-      finds_unsupported_step = gives_none call _ OnUnsupportedStep none;
+      finds_missing = gives_none call _ OnMissing none;
+      finds_refusal = λ refusal. gives_none call _ (OnRefusal refusal) none;
+      finds_stop = λ refusal. gives_none call _ (OnStop refusal) none;
       completes = gives_none call _ OnCompletion none;
       other_files = kept (IsWritten call) call.before.shelf call.after.shelf untouched.files;
       sink = sink;
@@ -253,57 +242,72 @@ module _ (call : Call) (command : Command) (spelled : read_words call.words ≡ 
   abbrev new : ShelfState
   new = call.after.shelf
 
+  ends_refused : (refusal : Refusal) → FailsBy command old new (Refused refusal)
+      → Prints call.before.sink call.after.sink (refusal_line refusal) → EndsBy call refusal
+  ends_refused refusal (inl tests) put = inl (command, spelled, record { work = tests; put = put })
+  ends_refused refusal (inr run) put = inr (command, spelled, record { work = run; put = put })
+
+  means_refused : (refusal : Refusal) → EndsBy call refusal → Means call (refusal_status refusal)
+  means_refused (BadImage number) ends = (number, ends)
+  means_refused (BadDisk size) ends = (size, ends)
+  means_refused (BadLine number) ends = (number, ends)
+  means_refused (BadClient place) ends = (place, ends)
+  means_refused NotBuilt ends = ends
+
   means_failed : (fault : Fault) → FailsBy command old new fault
       → Prints call.before.sink call.after.sink (line fault) → Means call (status fault)
   means_failed Usage why put = absurd why
-  means_failed (Image number) why put =
-      (command, spelled, record { number = number; first = why.0; files = why.1; put = put })
+  means_failed (Refused refusal) why put = means_refused refusal (ends_refused refusal why put)
   means_failed Read why put = (command, spelled, record { work = why; put = put })
   means_failed Write why put = inl (command, spelled, record { work = why; put = put })
   means_failed NoMemory why put = (command, spelled, record { work = why; put = put })
-  means_failed NotBuilt why put = (command, spelled, record { work = why; put = put })
 
-  bad_image : (fault : Fault) → FailsBy command old new fault → call.status ≡ status fault → (number : ℕ)
-      → IsTrue old.observable → BadImage command old number → OnBadImage call.status
-  bad_image Usage why is number seen bad = absurd why
-  bad_image (Image k) why is number seen bad = inl is
-  bad_image Read why is number seen bad = inr (inl is)
-  bad_image Write why is number seen bad =
-      absurd (good_image command old number seen (good_cut command old new why.files) bad)
-  bad_image NoMemory why is number seen bad = inr (inr is)
-  bad_image NotBuilt (inl input) is number seen bad = absurd (one_refusal command old number seen bad input.0)
-  bad_image NotBuilt (inr step) is number seen bad =
-      absurd (good_image command old number seen (good_stopped command old new step.0) bad)
+  missing : (fault : Fault) → FailsBy command old new fault → call.status ≡ status fault → IsTrue old.observable
+      → IsMissing old (reads command) → OnMissing call.status
+  missing Usage why is seen none = absurd why
+  missing (Refused found) (inl tests) is seen none = absurd (judged_there command old (Some found) seen tests.found none)
+  missing (Refused found) (inr run) is seen none =
+      absurd (judged_there command old None seen (stop_judged command old found run.stop) none)
+  missing Read why is seen none = inl is
+  missing Write why is seen none = absurd (judged_there command old None seen (cut_judged command old new why.files) none)
+  missing NoMemory why is seen none = inr is
 
-  unsupported_input : (fault : Fault) → FailsBy command old new fault → call.status ≡ status fault
-      → IsTrue old.observable → UnsupportedInput command old → OnUnsupportedInput call.status
-  unsupported_input Usage why is seen bad = absurd why
-  unsupported_input (Image k) why is seen bad = absurd (one_refusal command old k seen why.0 bad)
-  unsupported_input Read why is seen bad = inr (inl is)
-  unsupported_input Write why is seen bad =
-      absurd (good_input command old seen (good_cut command old new why.files) bad)
-  unsupported_input NoMemory why is seen bad = inr (inr is)
-  unsupported_input NotBuilt why is seen bad = inl is
+  refusal_found : (fault : Fault) → FailsBy command old new fault → call.status ≡ status fault → (refusal : Refusal)
+      → IsTrue old.observable → Judges command old (Some refusal) → OnRefusal refusal call.status
+  refusal_found Usage why is refusal seen bad = absurd why
+  refusal_found (Refused found) (inl tests) is refusal seen bad =
+      inl (is ∙ ap refusal_status (one_refusal found refusal
+      (one_judgement command old seen (Some found) (Some refusal) tests.found bad)))
+  refusal_found (Refused found) (inr run) is refusal seen bad =
+      absurd (some_none refusal (one_judgement command old seen (Some refusal) None bad
+      (stop_judged command old found run.stop)))
+  refusal_found Read why is refusal seen bad = inr (inl is)
+  refusal_found Write why is refusal seen bad =
+      absurd (some_none refusal (one_judgement command old seen (Some refusal) None bad
+      (cut_judged command old new why.files)))
+  refusal_found NoMemory why is refusal seen bad = inr (inr is)
 
-  unsupported_step : (fault : Fault) → FailsBy command old new fault → call.status ≡ status fault
-      → IsTrue old.observable → UnsupportedStep command old → OnUnsupportedStep call.status
-  unsupported_step Usage why is seen step = absurd why
-  unsupported_step (Image k) why is seen step =
-      absurd (good_image command old k seen (good_step command old step) why.0)
-  unsupported_step Read why is seen step = inr (inl is)
-  unsupported_step Write why is seen step = inr (inr (inl is))
-  unsupported_step NoMemory why is seen step = inr (inr (inr is))
-  unsupported_step NotBuilt why is seen step = inl is
+  stop_found : (fault : Fault) → FailsBy command old new fault → call.status ≡ status fault → (refusal : Refusal)
+      → IsTrue old.observable → Stops command old refusal → OnStop refusal call.status
+  stop_found Usage why is refusal seen stop = absurd why
+  stop_found (Refused found) (inl tests) is refusal seen stop =
+      absurd (some_none found (one_judgement command old seen (Some found) None tests.found
+      (stop_judged command old refusal stop)))
+  stop_found (Refused found) (inr run) is refusal seen stop =
+      inl (is ∙ ap refusal_status (one_stop command old found refusal run.stop stop))
+  stop_found Read why is refusal seen stop = inr (inl is)
+  stop_found Write why is refusal seen stop = inr (inr (inl is))
+  stop_found NoMemory why is refusal seen stop = inr (inr (inr is))
 
   completes : (fault : Fault) → FailsBy command old new fault → call.status ≡ status fault → IsTrue old.observable
-      → CanComplete command old × NoFailure call command → OnCompletion call.status
-  completes Usage why is seen can = absurd why
-  completes (Image k) why is seen can = absurd (good_image command old k seen (good_can command old can.0) why.0)
-  completes Read why is seen can = absurd (can.1.reads why.failed)
-  completes Write why is seen can = absurd (can.1.writes why.failed)
-  completes NoMemory why is seen can = inr is
-  completes NotBuilt (inl input) is seen can = absurd (good_input command old seen (good_can command old can.0) input.0)
-  completes NotBuilt (inr step) is seen can = absurd (can_stop command old new seen can.0 step.0)
+      → NothingAgainst call command → OnCompletion call.status
+  completes Usage why is seen fine = absurd why
+  completes (Refused found) (inl tests) is seen fine =
+      absurd (some_none found (one_judgement command old seen (Some found) None tests.found fine.tests))
+  completes (Refused found) (inr run) is seen fine = absurd (fine.run found run.stop)
+  completes Read why is seen fine = absurd (fine.reads why.failed)
+  completes Write why is seen fine = absurd (fine.writes why.failed)
+  completes NoMemory why is seen fine = inr is
 
   ends_by : (fault : Fault) → FailsBy command old new fault → call.status ≡ status fault
       → Prints call.before.sink call.after.sink (line fault) → SinkGoesOn call.before.sink call.after.sink → Ends call
@@ -312,9 +316,10 @@ module _ (call : Call) (command : Command) (spelled : read_words call.words ≡ 
       record {
         means = subst P (sym is) (means_failed fault why put);
         finds_no_command = λ none. absurd (no_command (read_words call.words) command none spelled);
-        finds_bad_image = λ number. gives_at call _ OnBadImage command spelled (bad_image fault why is number);
-        finds_unsupported_input = gives_at call _ OnUnsupportedInput command spelled (unsupported_input fault why is);
-        finds_unsupported_step = gives_at call _ OnUnsupportedStep command spelled (unsupported_step fault why is);
+        finds_missing = gives_at call _ OnMissing command spelled (missing fault why is);
+        finds_refusal = λ refusal. gives_at call _ (OnRefusal refusal) command spelled
+            (refusal_found fault why is refusal);
+        finds_stop = λ refusal. gives_at call _ (OnStop refusal) command spelled (stop_found fault why is refusal);
         completes = gives_at call _ OnCompletion command spelled (completes fault why is);
         other_files = written call command spelled (fails_change command old new fault why);
         sink = sink;

@@ -3,8 +3,9 @@ pub mod StepLemmas
 pub mod BootLemmas
 pub mod LogLemmas
 pub mod WordLemmas
-pub mod CaseLemmas
-pub mod ImageLemmas
+pub mod SinkLemmas
+pub mod TestLemmas
+pub mod ClientLemmas
 pub mod SameLemmas
 pub mod FileLemmas
 pub mod RunLemmas

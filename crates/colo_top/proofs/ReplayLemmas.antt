@@ -1,50 +1,86 @@
 -- From the parts of a command to the whole of it.
-use Rattle.std.proofs.Common.{◌≡◌, ℕ, List, [], ◌∷◌, Some, ◌⊎◌, inl, inr, lit<, refl, ◌∙◌, Result, Ok, Err, IfOk, IfErr, OnOk, String, string_bytes, IsTrue}
+use Rattle.std.proofs.Common.{◌≡◌, ℕ, List, [], ◌∷◌, ◌++◌, Some, None, ◌⊎◌, inl, inr, lit<, refl, sym, ap, ◌∙◌, fold, Result, Ok, Err, IfOk, IfErr, OnOk, String, string_bytes, IsTrue}
+use Rattle.std.proofs.lemmas.List.Sums.{fold-append}
 use Rattle.std.specs.declared.alloc.Global.{Global}
 use Rattle.colo_base.specs.Count.{Increased}
 use Rattle.colo_base.specs.Shelf.{ShelfState, NoFetchFailed, NoWriteFailed}
 use Rattle.colo_base.specs.declared.traits.ShelfFault.{ShelfFault}
 use Rattle.colo_base.specs.declared.traits.ShelfFault.TheVariants.{Failed, NoMemory as shelf_memory}
-use Rattle.colo_base.proofs.StateLemmas.{front_itself}
+use Rattle.colo_base.proofs.StateLemmas.{changes_none, front_itself}
+use Rattle.replay_log.specs.Texts.{IsLog}
+use Rattle.replay_log.specs.declared.records.Record.{Record}
+use Rattle.splice_run.specs.Single.{single_run}
 use Rattle.colo_top.specs.declared.fault.Fault.{Fault}
-use Rattle.colo_top.specs.declared.fault.Fault.TheVariants.{Usage, Image, Read, Write, NoMemory, NotBuilt}
+use Rattle.colo_top.specs.declared.fault.Fault.TheVariants.{Usage, Refused, Read, Write, NoMemory}
 use Rattle.colo_top.specs.declared.output.Output.{Output}
-use Rattle.colo_top.specs.declared.output.Output.TheVariants.{Image as image_output}
+use Rattle.colo_top.specs.declared.output.Output.TheVariants.{Named}
 use Rattle.colo_top.specs.declared.schedule.Turn.{Turn}
-use Rattle.colo_top.specs.Command.{reads, replay_outputs, image_outputs}
-use Rattle.colo_top.specs.Files.{file_name, HasFiles, KeepsFiles, KeepsOrEmpties, WriteFailed, WritesOnly, AppendsPart, Appends, empty_files}
-use Rattle.colo_top.specs.Image.{image_bytes, Boots}
+use Rattle.colo_top.specs.Command.{reads, replay_outputs, named_outputs}
+use Rattle.colo_top.specs.Files.{file_name, HasFile, HasFiles, KeepsFiles, KeepsOrEmpties, WriteFailed, WritesOnly, AppendsPart, empty_files}
 use Rattle.colo_top.specs.Machine.{State}
-use Rattle.colo_top.specs.Outcome.{Completes, FailsBy, IsUntouched, ImagePart, bytes_line}
+use Rattle.colo_top.specs.OneFile.{FileCutOff, FileFails, HasFront, HasOneFile}
+use Rattle.colo_top.specs.Outcome.{Completes, FailsBy, HasImage, IsUntouched, bytes_line}
 use Rattle.colo_top.specs.Reading.{Texts, AreRead, FetchFailed}
-use Rattle.colo_top.specs.Replay.{IsReady, Prepared, RunDone, IsCutOff}
-use Rattle.colo_top.specs.RunSteps.{PreparedFails, Refuses}
+use Rattle.colo_top.specs.Replay.{IsReady, Prepared, RunDone, RunUnsupported, IsCutOff}
+use Rattle.colo_top.specs.Run.{run_from, next_state}
+use Rattle.colo_top.specs.RunSteps.{FailsTest, PreparedFails}
+use Rattle.colo_top.specs.Splice.{HasLog, spliced_text, turns_line}
 use Rattle.colo_top.specs.Status.{read_fault, write_fault}
-use Rattle.colo_top.specs.Words.{ReplayWords, replay_command, ImageWords, image_command}
-use Rattle.colo_top.proofs.FileLemmas.{writes_none, writes_after, writes_then, failed_from}
+use Rattle.colo_top.specs.Tests.{TestLog, TestRun, TestSchedule}
+use Rattle.colo_top.specs.Words.{RunWords, replay_command, SpliceWords, splice_command, ImageWords, image_command}
+use Rattle.colo_top.proofs.FileLemmas.{writes_none, writes_after, failed_from}
+
+-- ---- what is read comes before what is written
+
+pub kept_from : (out : List ℕ) (old mid new : ShelfState) → KeepsFiles old mid → (outputs : List Output)
+    → KeepsOrEmpties out outputs mid new → KeepsOrEmpties out outputs old new
+kept_from out old mid new kept [] each = tt
+kept_from out old mid new kept (o ∷ os) each =
+    (λ seen. at seen (each.0 (kept.observable ∙ seen)), kept_from out old mid new kept os each.1)
+  where
+    at : IsTrue old.observable → (new.contents (file_name out o) ≡ mid.contents (file_name out o))
+        ⊎ (new.contents (file_name out o) ≡ Some []) → (new.contents (file_name out o) ≡ old.contents (file_name out o))
+        ⊎ (new.contents (file_name out o) ≡ Some [])
+    at seen (inl same) = inl (same ∙ kept.others seen (file_name out o) (λ none. none))
+    at seen (inr empty) = inr empty
+
+-- ---- a run that has no last state
+
+none_after : (turns : List Turn) → fold next_state None turns ≡ None
+none_after [] = refl
+none_after (t ∷ ts) = none_after ts
+
+-- a run that comes to a step that isn't built has no last state
+stopped_all : (boot : State) (front back : List Turn) (turn : Turn) → run_from boot (front ++ (turn ∷ [])) ≡ None
+    → run_from boot (front ++ (turn ∷ back)) ≡ None
+unfolding run_from
+stopped_all boot front back turn e =
+    fold-append next_state (Some boot) front (turn ∷ back)
+    ∙ (ap (λ s. fold next_state s back) (sym (fold-append next_state (Some boot) front (turn ∷ [])) ∙ e)
+    ∙ none_after back)
 
 -- ---- a replay
 
 -- the file that failed was fetched, and those before it
-pub read_fails : (c : ReplayWords) (old new : ShelfState) (fault : ShelfFault) → KeepsFiles old new
+pub read_fails : (c : RunWords) (old new : ShelfState) (fault : ShelfFault) → KeepsFiles old new
     → NoWriteFailed old new → (fault ≡ Failed → FetchFailed (reads (replay_command c)) old new)
     → FailsBy (replay_command c) old new (read_fault fault)
 read_fails c old new Failed kept writes cause = record { failed = cause refl; files = kept; writes = writes }
 read_fails c old new shelf_memory kept writes cause = record { files = inl kept }
 
-module _ (c : ReplayWords) (old mid : ShelfState) (texts : Texts) (read : AreRead old c texts)
+module _ (c : RunWords) (old mid : ShelfState) (texts : Texts) (read : AreRead old c texts)
     (kept : KeepsFiles old mid) (writes : NoWriteFailed old mid) (fetches : NoFetchFailed old mid) where
   untouched : IsUntouched old mid
   untouched = record { files = kept; fetches = fetches; writes = writes }
 
-  -- what was read makes no run
-  pub refused : (fault : Fault) → Refuses c.mib texts fault → FailsBy (replay_command c) old mid fault
+  -- a test refuses what was read
+  pub refused : (fault : Fault) → FailsTest (TestRun c.mib (TestSchedule texts.lines) texts) fault
+      → FailsBy (replay_command c) old mid fault
   refused Usage why = why
-  refused (Image number) why = (record { image = texts.image; read = read.image; first = why }, untouched)
+  refused (Refused refusal) why = inl (record { found = (texts, read, why); files = untouched })
   refused Read why = absurd why
   refused Write why = absurd why
   refused NoMemory why = record { files = inl kept }
-  refused NotBuilt why = inl (record { texts = texts; read = read; none = why.0; why = why.1 }, untouched)
 
   module _ (turns : List Turn) (boot : State) (ready : IsReady c.mib texts turns boot) (new : ShelfState)
       (change : WritesOnly c.out replay_outputs mid new) where
@@ -54,25 +90,16 @@ module _ (c : ReplayWords) (old mid : ShelfState) (texts : Texts) (read : AreRea
     all_changes : WritesOnly c.out replay_outputs old new
     all_changes = writes_after c.out replay_outputs old mid new kept fetches change
 
-    kept_from : (outputs : List Output) → KeepsOrEmpties c.out outputs mid new → KeepsOrEmpties c.out outputs old new
-    kept_from [] each = tt
-    kept_from (o ∷ os) each = (λ seen. at seen (each.0 (kept.observable ∙ seen)), kept_from os each.1)
-      where
-        at : IsTrue old.observable → (new.contents (file_name c.out o) ≡ mid.contents (file_name c.out o))
-            ⊎ (new.contents (file_name c.out o) ≡ Some []) →
-            (new.contents (file_name c.out o) ≡ old.contents (file_name c.out o))
-            ⊎ (new.contents (file_name c.out o) ≡ Some [])
-        at seen (inl same) = inl (same ∙ kept.others seen (file_name c.out o) (λ none. none))
-        at seen (inr empty) = inr empty
-
     cut_off : IsCutOff mid new c.out boot turns → IsCutOff old new c.out boot turns
-    cut_off (inl created) = inl (kept_from replay_outputs created)
+    cut_off (inl created) = inl (kept_from c.out old mid new kept replay_outputs created)
     cut_off (inr cut) = inr cut
+
+    all_stopped : RunUnsupported new c.out boot turns → run_from boot turns ≡ None
+    all_stopped run = ap (λ ts. run_from boot ts) run.split ∙ stopped_all boot run.front run.back run.turn run.stopped
 
     run_failed : (fault : Fault) → PreparedFails mid new c.out boot turns fault
         → FailsBy (replay_command c) old new fault
     run_failed Usage fails = fails
-    run_failed (Image number) fails = absurd fails
     run_failed Read fails = absurd fails
     run_failed Write fails =
         record {
@@ -87,7 +114,12 @@ module _ (c : ReplayWords) (old mid : ShelfState) (texts : Texts) (read : AreRea
         }
     run_failed NoMemory fails =
         record { files = inr (record { prepared = prepared; run = cut_off fails }, all_changes) }
-    run_failed NotBuilt fails = inr (record { prepared = prepared; run = fails }, all_changes)
+    run_failed (Refused refusal) fails =
+        inr (record {
+          stop = (fails.1, record { prepared = prepared; stopped = all_stopped fails.0 });
+          files = record { prepared = prepared; run = fails.0 };
+          change = all_changes;
+        })
 
     pub replay_done : (r : Result (String Global) Fault)
         → IfOk r (λ line. RunDone new c.out boot turns (string_bytes line)) → OnOk r (NoWriteFailed mid new)
@@ -104,61 +136,112 @@ module _ (c : ReplayWords) (old mid : ShelfState) (texts : Texts) (read : AreRea
     replay_fails (Ok line) fails = tt
     replay_fails (Err fault) fails = run_failed fault fails
 
+-- ---- one file
+
+module _ (old mid new : ShelfState) (out bytes : List ℕ) (created : WritesOnly out named_outputs old mid)
+    (empty : HasFiles mid out (empty_files named_outputs)) where
+  front_written : AppendsPart mid new out Named bytes → HasFront new out bytes
+  front_written part =
+      let p = part (empty_files named_outputs) empty in record { part = p.0; front = p.1; files = p.2 }
+
+  pub append_fails : (fault : ShelfFault) → AppendsPart mid new out Named bytes → (fault ≡ Failed
+      → Increased (mid.write_faults (file_name out Named)) (new.write_faults (file_name out Named)))
+      → FileFails old new out bytes (write_fault fault)
+  append_fails Failed part cause =
+      (failed_from out named_outputs old mid new created (Named, (0, lit< tt, refl), cause refl), inr (front_written part))
+  append_fails shelf_memory part cause = inr (front_written part)
+
+pub creation_fails : (old new : ShelfState) (out bytes : List ℕ) (fault : ShelfFault)
+    → KeepsOrEmpties out named_outputs old new → (fault ≡ Failed → WriteFailed out named_outputs old new)
+    → FileFails old new out bytes (write_fault fault)
+creation_fails old new out bytes Failed kept cause = (cause refl, inl kept)
+creation_fails old new out bytes shelf_memory kept cause = inl kept
+
+-- a file that is whole begins with itself
+pub whole_front : (now : ShelfState) (out bytes : List ℕ) → HasOneFile now out bytes → HasFront now out bytes
+whole_front now out bytes files = record { part = bytes; front = front_itself bytes; files = files }
+
 -- ---- a demo image
 
-module _ (c : ImageWords) (old mid new : ShelfState) (created : WritesOnly c.out image_outputs old mid)
-    (empty : HasFiles mid c.out (empty_files image_outputs)) (appended : WritesOnly c.out image_outputs mid new) where
-  abbrev bytes : List ℕ
-  bytes = image_bytes c.demo
+-- there was no memory for its bytes
+pub image_unmade : (c : ImageWords) (s : ShelfState) → FailsBy (image_command c) s s NoMemory
+image_unmade c s = record { files = inl (changes_none (λ name. ⊥) s) }
 
-  changes : WritesOnly c.out image_outputs old new
-  changes = writes_then c.out image_outputs old mid new created appended
+module _ (c : ImageWords) (from : HasImage c) (old new : ShelfState) (change : WritesOnly c.out named_outputs old new) where
+  pub image_fails : (fault : Fault) → FileFails old new c.out from.bytes fault → FailsBy (image_command c) old new fault
+  image_fails Usage fails = fails
+  image_fails (Refused refusal) fails = absurd fails
+  image_fails Read fails = absurd fails
+  image_fails Write fails =
+      record { failed = fails.0; files = record { from = from; files = fails.1 }; change = change }
+  image_fails NoMemory fails = record { files = inr (record { from = from; files = fails }, change) }
 
-  part_written : AppendsPart mid new c.out image_output bytes → ImagePart c new
-  part_written part =
-      let p = part (empty_files image_outputs) empty in
-      record { bytes = p.0; part = p.1; files = p.2 }
+  pub image_line_fails : HasOneFile new c.out from.bytes → FailsBy (image_command c) old new NoMemory
+  image_line_fails files = image_fails NoMemory (inr (whole_front new c.out from.bytes files))
 
-  pub append_fails : (fault : ShelfFault) → AppendsPart mid new c.out image_output bytes → (fault ≡ Failed
-      → Increased (mid.write_faults (file_name c.out image_output)) (new.write_faults
-      (file_name c.out image_output))) → FailsBy (image_command c) old new (write_fault fault)
-  append_fails Failed part cause =
-      record {
-        failed = failed_from c.out image_outputs old mid new created (
-          image_output,
-          (0, lit< tt, refl),
-          cause refl,
-        );
-        files = inr (part_written part);
-        change = changes;
-      }
-  append_fails shelf_memory part cause = record { files = inr (inr (part_written part), changes) }
+  pub image_done : (line : List ℕ) → line ≡ bytes_line from.bytes → HasOneFile new c.out from.bytes
+      → NoWriteFailed old new → Completes (image_command c) old new line
+  image_done line said files writes =
+      record { work = record { from = from; files = files; said = said }; change = change; writes = writes }
 
-  pub image_line_fails : Appends mid new c.out image_output bytes → FailsBy (image_command c) old new NoMemory
-  image_line_fails whole =
-      record {
-        files = inr (
-          inr (record {
-            bytes = bytes;
-            part = front_itself bytes;
-            files = whole (empty_files image_outputs) empty;
-          }),
-          changes,
-        );
-      }
+-- ---- a single run
 
-  pub image_done : (line : List ℕ) → line ≡ bytes_line bytes → Boots bytes
-      → Appends mid new c.out image_output bytes → NoWriteFailed old mid → NoWriteFailed mid new
-      → Completes (image_command c) old new line
-  image_done line said boots whole first second = record {
-    work = record { files = whole (empty_files image_outputs) empty; boots = boots; said = said };
-    change = changes;
-    writes = λ name. second name ∙ first name;
-  }
+pub log_unread : (c : SpliceWords) (old new : ShelfState) (fault : ShelfFault) → KeepsFiles old new
+    → NoWriteFailed old new → (fault ≡ Failed → Increased (old.fetch_faults c.log) (new.fetch_faults c.log))
+    → FailsBy (splice_command c) old new (read_fault fault)
+log_unread c old new Failed kept writes cause = record { failed = inl (cause refl); files = kept; writes = writes }
+log_unread c old new shelf_memory kept writes cause = record { files = inl kept }
 
-pub image_creation_fails : (c : ImageWords) (old new : ShelfState) (fault : ShelfFault)
-    → KeepsOrEmpties c.out image_outputs old new → WritesOnly c.out image_outputs old new → (fault ≡ Failed
-    → WriteFailed c.out image_outputs old new) → FailsBy (image_command c) old new (write_fault fault)
-image_creation_fails c old new Failed kept change cause =
-    record { failed = cause refl; files = inl kept; change = change }
-image_creation_fails c old new shelf_memory kept change cause = record { files = inr (inl kept, change) }
+module _ (c : SpliceWords) (old mid : ShelfState) (text : List ℕ) (read : HasFile old c.log text)
+    (kept : KeepsFiles old mid) (writes : NoWriteFailed old mid) (fetches : NoFetchFailed old mid) where
+  pub log_refused : (fault : Fault) → FailsTest (TestLog text) fault → FailsBy (splice_command c) old mid fault
+  log_refused Usage why = why
+  log_refused (Refused refusal) why =
+      inl (record {
+        found = (text, read, why);
+        files = record { files = kept; fetches = fetches; writes = writes };
+      })
+  log_refused Read why = absurd why
+  log_refused Write why = absurd why
+  log_refused NoMemory why = record { files = inl kept }
+
+  pub splice_unmade : FailsBy (splice_command c) old mid NoMemory
+  splice_unmade = record { files = inl kept }
+
+  module _ (log : List Record) (spelled : IsLog log text) (new : ShelfState)
+      (change : WritesOnly c.out named_outputs mid new) where
+    abbrev from : HasLog c old
+    from = record { text = text; read = read; log = log; spelled = spelled }
+
+    all_written : WritesOnly c.out named_outputs old new
+    all_written = writes_after c.out named_outputs old mid new kept fetches change
+
+    cut_from : FileCutOff mid new c.out (spliced_text log) → FileCutOff old new c.out (spliced_text log)
+    cut_from (inl created) = inl (kept_from c.out old mid new kept named_outputs created)
+    cut_from (inr front) = inr front
+
+    pub splice_fails : (fault : Fault) → FileFails mid new c.out (spliced_text log) fault
+        → FailsBy (splice_command c) old new fault
+    splice_fails Usage fails = fails
+    splice_fails (Refused refusal) fails = absurd fails
+    splice_fails Read fails = absurd fails
+    splice_fails Write fails =
+        record {
+          failed = failed_from c.out named_outputs old mid new (writes_after c.out named_outputs old mid mid kept fetches
+              (writes_none c.out named_outputs mid)) fails.0;
+          files = record { from = from; files = cut_from fails.1 };
+          change = all_written;
+        }
+    splice_fails NoMemory fails = record { files = inr (record { from = from; files = cut_from fails }, all_written) }
+
+    pub splice_line_fails : HasOneFile new c.out (spliced_text log) → FailsBy (splice_command c) old new NoMemory
+    splice_line_fails files = splice_fails NoMemory (inr (whole_front new c.out (spliced_text log) files))
+
+    pub splice_done : (line : List ℕ) → line ≡ turns_line (single_run log) → HasOneFile new c.out (spliced_text log)
+        → NoWriteFailed mid new → Completes (splice_command c) old new line
+    splice_done line said files none =
+        record {
+          work = record { from = from; files = files; said = said };
+          change = all_written;
+          writes = λ name. none name ∙ writes name;
+        }

@@ -16,7 +16,7 @@ use Rattle.replay_log.specs.Texts.{record_text}
 use Rattle.replay_log.specs.declared.records.Record.{Record}
 use Rattle.colo_top.specs.Schedule.{line_of}
 use Rattle.colo_top.specs.declared.fault.Fault.{Fault}
-use Rattle.colo_top.specs.declared.fault.Fault.TheVariants.{Usage, Image, Read, Write, NoMemory, NotBuilt}
+use Rattle.colo_top.specs.declared.fault.Fault.TheVariants.{Usage, Refused, Read, Write, NoMemory}
 use Rattle.colo_top.specs.declared.output.Output.TheVariants.{Log, Ram, Disk}
 use Rattle.colo_top.specs.declared.schedule.Turn.{Turn}
 use Rattle.colo_top.specs.Command.{replay_outputs}
@@ -196,7 +196,6 @@ module _ (start now : ShelfState) (out : List ℕ) (machine here : State) (made 
   pub run_fails : (new : ShelfState) (turns back : List Turn) (fault : Fault) → turns ≡ made ++ (turn ∷ back)
       → TurnFails now new out here turn fault → RunFails start new out machine turns fault
   run_fails new turns back Usage split fails = fails
-  run_fails new turns back (Image number) split fails = fails
   run_fails new turns back Read split fails = fails
   run_fails new turns back Write split fails =
       (failed_from out replay_outputs start now new so_far.change fails.0, cut_within new turns back split fails.1)
@@ -204,17 +203,19 @@ module _ (start now : ShelfState) (out : List ℕ) (machine here : State) (made 
       let P : ShelfState → Type 0 = λ s. RunCutOff s out machine turns in subst P (sym same)
       (cut_before turns back split)
   run_fails new turns back NoMemory split (inr cut) = cut_within new turns back split cut
-  run_fails new turns back NotBuilt split fails =
-      let P : ShelfState → Type 0 = λ s. HasFiles s out (run_files log_so_far [] []) in
-      record {
-        front = made;
-        turn = turn;
-        back = back;
-        split = split;
-        progress = progress_of machine here made so_far.ran;
-        stopped = turn_stopped fails.1;
-        files = subst P (sym fails.0) so_far.files;
-      }
+  run_fails new turns back (Refused refusal) split fails =
+      let P : ShelfState → Type 0 = λ s. HasFiles s out (run_files log_so_far [] []) in (
+        record {
+          front = made;
+          turn = turn;
+          back = back;
+          split = split;
+          progress = progress_of machine here made so_far.ran;
+          stopped = turn_stopped fails.1;
+          files = subst P (sym fails.0) so_far.files;
+        },
+        fails.2,
+      )
 
 -- what an index past the turns gives
 abbrev pub no_turn : Turn
@@ -283,12 +284,11 @@ pub prepared_fails : (old mid new : ShelfState) (out : List ℕ) (boot : State) 
     → WritesOnly out replay_outputs old mid → RunFails mid new out boot turns fault
     → PreparedFails old new out boot turns fault
 prepared_fails old mid new out boot turns Usage change fails = fails
-prepared_fails old mid new out boot turns (Image number) change fails = fails
 prepared_fails old mid new out boot turns Read change fails = fails
 prepared_fails old mid new out boot turns Write change fails =
     (failed_from out replay_outputs old mid new change fails.0, inr fails.1)
 prepared_fails old mid new out boot turns NoMemory change fails = inr fails
-prepared_fails old mid new out boot turns NotBuilt change fails = fails
+prepared_fails old mid new out boot turns (Refused refusal) change fails = fails
 
 -- the files weren't all created
 pub creation_fails : (old new : ShelfState) (out : List ℕ) (boot : State) (turns : List Turn) (fault : ShelfFault)

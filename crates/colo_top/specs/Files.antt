@@ -6,7 +6,7 @@ use Rattle.std.specs.Str.{bytes_eq}
 use Rattle.colo_base.specs.Count.{Increased}
 use Rattle.colo_base.specs.Shelf.{ShelfState, ChangesOnly, NoFetchFailed}
 use Rattle.colo_top.specs.declared.output.Output.{Output}
-use Rattle.colo_top.specs.declared.output.Output.TheVariants.{Log, Released, Wire, Ram, Disk, Image}
+use Rattle.colo_top.specs.declared.output.Output.TheVariants.{Log, Released, Wire, Ram, Disk, Named}
 
 -- what a file's name ends with
 abbrev pub ending : Output → List ℕ
@@ -15,7 +15,7 @@ ending Released = codes ".released"
 ending Wire = codes ".wire"
 ending Ram = codes ".ram"
 ending Disk = codes ".disk"
-ending Image = []
+ending Named = []
 
 -- the name of a file
 abbrev pub file_name : List ℕ → Output → List ℕ

@@ -16,7 +16,9 @@ pub mod ReadBytes
 pub mod Run
 pub mod RunSteps
 pub mod Status
-pub mod Image
+pub mod OneFile
+pub mod Tests
 pub mod Replay
+pub mod Splice
 pub mod Outcome
 pub mod Top

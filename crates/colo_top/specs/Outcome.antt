@@ -1,17 +1,21 @@
 -- How a command ends, command by command, before its line is put.
-use Rattle.std.specs.Prelude.{◌≡◌, ℕ, List, [], ◌∷◌, ◌++◌, codes, decimal, length, Some, None, ◌⊎◌}
-use Rattle.std.specs.Io.{StartsWith}
+use Rattle.std.specs.Prelude.{◌≡◌, ℕ, ◌^◌, ◌≤◌, List, [], ◌∷◌, ◌++◌, codes, decimal, length, Option, Some, None, ◌⊎◌}
 use Rattle.colo_base.specs.Shelf.{ShelfState, NoFetchFailed, NoWriteFailed}
+use Rattle.elf_load.specs.Boot.{elf_case}
+use Rattle.colo_guests.specs.Images.{image}
 use Rattle.shared_definitions.specs.Ascii.{newline}
 use Rattle.colo_top.specs.declared.fault.Fault.{Fault}
-use Rattle.colo_top.specs.declared.fault.Fault.TheVariants.{Usage, Image, Read, Write, NoMemory, NotBuilt}
-use Rattle.colo_top.specs.declared.output.Output.TheVariants.{Image as image_output}
-use Rattle.colo_top.specs.Command.{reads, out_of, outputs_of, image_outputs}
-use Rattle.colo_top.specs.Files.{file, HasFiles, KeepsFiles, KeepsOrEmpties, WriteFailed, WritesOnly}
-use Rattle.colo_top.specs.Image.{image_bytes, Boots}
-use Rattle.colo_top.specs.Reading.{FetchFailed}
-use Rattle.colo_top.specs.Replay.{ReplayDone, ReplayCutOff, ReplayUnsupported, HasBadImage, HasUnsupportedInput, HasUnsupportedStep, CanRun}
-use Rattle.colo_top.specs.Words.{Command, replay_command, image_command, ImageWords, read_words}
+use Rattle.colo_top.specs.declared.fault.Fault.TheVariants.{Usage, Refused, Read, Write, NoMemory}
+use Rattle.colo_top.specs.declared.fault.Refusal.{Refusal}
+use Rattle.colo_top.specs.declared.fault.Refusal.TheVariants.{NotBuilt}
+use Rattle.colo_top.specs.Command.{reads, out_of, outputs_of}
+use Rattle.colo_top.specs.Files.{HasFile, KeepsFiles, WriteFailed, WritesOnly}
+use Rattle.colo_top.specs.OneFile.{FileCutOff, HasOneFile}
+use Rattle.colo_top.specs.Reading.{AreRead, FetchFailed, Texts}
+use Rattle.colo_top.specs.Replay.{ReplayDone, ReplayCutOff, ReplayUnsupported, HasUnsupportedStep}
+use Rattle.colo_top.specs.Splice.{SpliceDone, SpliceCutOff}
+use Rattle.colo_top.specs.Tests.{TestLog, TestRun, TestSchedule}
+use Rattle.colo_top.specs.Words.{Command, replay_command, splice_command, image_command, ImageWords, read_words}
 
 -- ---- `image`: the image's bytes are written
 
@@ -19,54 +23,60 @@ use Rattle.colo_top.specs.Words.{Command, replay_command, image_command, ImageWo
 abbrev pub bytes_line : List ℕ → List ℕ
 bytes_line bytes = codes "bytes " ++ (decimal (length bytes) ++ (newline ∷ []))
 
--- the file is the image, of which no case of the loader holds
-pub record ImageDone (c : ImageWords) (new : ShelfState) (line : List ℕ) : Type 0 where
-  pub files : HasFiles new c.out (file image_output (image_bytes c.demo) ∷ [])
-  pub boots : Boots (image_bytes c.demo)
-  pub said : line ≡ bytes_line (image_bytes c.demo)
+-- no case of the loader holds of an image, in memory of 1 MiB or more
+abbrev pub Boots : List ℕ → Type 0
+Boots bytes = (size : ℕ) → 2 ^ 20 ≤ size → elf_case size bytes ≡ None
 
--- the file was cut off: it has a prefix of the image
-pub record ImagePart (c : ImageWords) (new : ShelfState) : Type 0 where
+-- these bytes are the image of that name, of which no case of the loader holds
+pub record HasImage (c : ImageWords) : Type 0 where
   pub bytes : List ℕ
-  pub part : StartsWith (image_bytes c.demo) bytes
-  pub files : HasFiles new c.out (file image_output bytes ∷ [])
+  pub named : image c.name ≡ Some bytes
+  pub boots : Boots bytes
 
--- ---- what the commands share
+-- the file is the image
+pub record ImageDone (c : ImageWords) (new : ShelfState) (line : List ℕ) : Type 0 where
+  pub from : HasImage c
+  pub files : HasOneFile new c.out from.bytes
+  pub said : line ≡ bytes_line from.bytes
+
+-- the file was being created, or cut off
+pub record ImageCutOff (c : ImageWords) (old new : ShelfState) : Type 0 where
+  pub from : HasImage c
+  pub files : FileCutOff old new c.out from.bytes
+
+-- ---- what is said of each command
+
+-- the tests of what it reads find this refusal, or nothing
+abbrev pub Judges : Command → ShelfState → Option Refusal → Type 0
+Judges (replay_command c) shelf found =
+    (texts : Texts) × AreRead shelf c texts × TestRun c.mib (TestSchedule texts.lines) texts found
+Judges (splice_command c) shelf found =
+    (text : List ℕ) × HasFile shelf c.log text × TestLog text found
+Judges (image_command c) shelf found = found ≡ None
+
+-- its run comes to a place where this stops it: a step that isn't built
+abbrev pub Stops : Command → ShelfState → Refusal → Type 0
+Stops (replay_command c) shelf refusal = (refusal ≡ NotBuilt) × HasUnsupportedStep c shelf
+Stops (splice_command c) shelf refusal = ⊥
+Stops (image_command c) shelf refusal = ⊥
+
+-- what was written before such a stop
+abbrev pub WrittenAtStop : Command → ShelfState → ShelfState → Type 0
+WrittenAtStop (replay_command c) old new = ReplayUnsupported c old new
+WrittenAtStop (splice_command c) old new = ⊥
+WrittenAtStop (image_command c) old new = ⊥
 
 -- the work was done, and this is the line to put
 abbrev pub IsDone : Command → ShelfState → ShelfState → List ℕ → Type 0
 IsDone (replay_command c) old new line = ReplayDone c old new line
+IsDone (splice_command c) old new line = SpliceDone c old new line
 IsDone (image_command c) old new line = ImageDone c new line
 
 -- the work was cut off while files were created or written
 abbrev pub IsCutOff : Command → ShelfState → ShelfState → Type 0
 IsCutOff (replay_command c) old new = ReplayCutOff c old new
-IsCutOff (image_command c) old new = KeepsOrEmpties c.out image_outputs old new ⊎ ImagePart c new
-
--- a case of the loader holds of the command's image, the first of that number
-abbrev pub BadImage : Command → ShelfState → ℕ → Type 0
-BadImage (replay_command c) shelf number = HasBadImage c shelf number
-BadImage (image_command c) shelf number = ⊥
-
--- something that the command reads asks for what isn't built
-abbrev pub UnsupportedInput : Command → ShelfState → Type 0
-UnsupportedInput (replay_command c) shelf = HasUnsupportedInput c shelf
-UnsupportedInput (image_command c) shelf = ⊥
-
--- a step of the command's run isn't built
-abbrev pub UnsupportedStep : Command → ShelfState → Type 0
-UnsupportedStep (replay_command c) shelf = HasUnsupportedStep c shelf
-UnsupportedStep (image_command c) shelf = ⊥
-
--- what was written before such a step
-abbrev pub StoppedAtStep : Command → ShelfState → ShelfState → Type 0
-StoppedAtStep (replay_command c) old new = ReplayUnsupported c old new
-StoppedAtStep (image_command c) old new = ⊥
-
--- nothing that the command reads keeps it from its end
-abbrev pub CanComplete : Command → ShelfState → Type 0
-CanComplete (replay_command c) shelf = CanRun c shelf
-CanComplete (image_command c) shelf = Unit {0}
+IsCutOff (splice_command c) old new = SpliceCutOff c old new
+IsCutOff (image_command c) old new = ImageCutOff c old new
 
 -- ---- the ends of every command
 
@@ -75,6 +85,19 @@ pub record IsUntouched (old new : ShelfState) : Type 0 where
   pub files : KeepsFiles old new
   pub fetches : NoFetchFailed old new
   pub writes : NoWriteFailed old new
+
+-- what was read was refused before any file was created
+pub record FailsTests (command : Command) (old new : ShelfState) (refusal : Refusal)
+    : Type 0 where
+  pub found : Judges command old (Some refusal)
+  pub files : IsUntouched old new
+
+-- the run was stopped after files were created
+pub record FailsInRun (command : Command) (old new : ShelfState) (refusal : Refusal)
+    : Type 0 where
+  pub stop : Stops command old refusal
+  pub files : WrittenAtStop command old new
+  pub change : WritesOnly (out_of command) (outputs_of command) old new
 
 -- a fetch failed before any file was created
 pub record FailsToRead (command : Command) (old new : ShelfState) : Type 0 where
@@ -99,20 +122,14 @@ pub record Completes (command : Command) (old new : ShelfState) (line : List ℕ
   pub change : WritesOnly (out_of command) (outputs_of command) old new
   pub writes : NoWriteFailed old new
 
--- something isn't built: it was found in what was read, or in the run
-abbrev pub IsUnsupported : Command → ShelfState → ShelfState → Type 0
-IsUnsupported command old new =
-    (UnsupportedInput command old × IsUntouched old new)
-    ⊎ (StoppedAtStep command old new × WritesOnly (out_of command) (outputs_of command) old new)
-
 -- what each fault means, once the words spell a command
 abbrev pub FailsBy : Command → ShelfState → ShelfState → Fault → Type 0
 FailsBy command old new Usage = ⊥
-FailsBy command old new (Image number) = BadImage command old number × IsUntouched old new
+FailsBy command old new (Refused refusal) =
+    FailsTests command old new refusal ⊎ FailsInRun command old new refusal
 FailsBy command old new Read = FailsToRead command old new
 FailsBy command old new Write = FailsToWrite command old new
 FailsBy command old new NoMemory = RunsOutOfMemory command old new
-FailsBy command old new NotBuilt = IsUnsupported command old new
 
 -- the words spell no command, or one that failed by this fault
 abbrev pub Fails : List (List ℕ) → ShelfState → ShelfState → Fault → Type 0

@@ -1,4 +1,4 @@
--- What a replay read, as the bytes of its files.
+-- What a run read, as the bytes of its files.
 use Rattle.colo_top.specs.declared.input.Inputs.{Inputs}
 use Rattle.colo_top.specs.Reading.{Texts}
 
@@ -7,5 +7,5 @@ texts_of inputs = record {
   image = inputs.image.items;
   disk = inputs.disk.items;
   client = inputs.client.items;
-  schedule = inputs.schedule.items;
+  lines = inputs.lines.items;
 }

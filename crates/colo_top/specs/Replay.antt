@@ -1,34 +1,35 @@
 -- What `replay` does: it runs the turns of a schedule from an image's boot state on, and writes the
 -- log, the memory and the disk of the run.
-use Rattle.std.specs.Prelude.{◌≡◌, ◌≢◌, ℕ, List, [], ◌∷◌, ◌++◌, Some, None, ◌⊎◌}
+use Rattle.std.specs.Prelude.{◌≡◌, ◌≢◌, ℕ, true, List, [], ◌∷◌, ◌++◌, length, Some, None, ◌⊎◌}
 use Rattle.std.specs.Io.{StartsWith}
 use Rattle.colo_base.specs.Shelf.{ShelfState}
-use Rattle.elf_load.specs.Boot.{elf_case}
+use Rattle.disk_buffers.specs.Sectors.{is_length}
 use Rattle.replay_log.specs.declared.records.Record.{Record}
+use Rattle.sock_link.specs.Stream.{IsSplit}
 use Rattle.colo_top.specs.declared.output.Output.TheVariants.{Log, Released, Wire, Ram, Disk}
 use Rattle.colo_top.specs.declared.schedule.Turn.{Turn}
-use Rattle.colo_top.specs.Boot.{boot_state, ram_size}
+use Rattle.colo_top.specs.Boot.{boot_state}
 use Rattle.colo_top.specs.Command.{replay_outputs}
-use Rattle.colo_top.specs.Files.{File, file, HasFile, HasFiles, KeepsOrEmpties}
+use Rattle.colo_top.specs.Files.{File, file, HasFiles, KeepsOrEmpties}
 use Rattle.colo_top.specs.Log.{IsLog, log_text, single_run, summary_text}
 use Rattle.colo_top.specs.Machine.{State}
-use Rattle.colo_top.specs.Reading.{Texts, AreRead, IsDisk, IsNotBuilt}
+use Rattle.colo_top.specs.Reading.{Texts, AreRead}
 use Rattle.colo_top.specs.Run.{run_from}
 use Rattle.colo_top.specs.Schedule.{IsTurnSchedule}
-use Rattle.colo_top.specs.Words.{ReplayWords}
+use Rattle.colo_top.specs.Words.{RunWords}
 
 -- ---- what is run
 
--- the turns of the schedule from the image's boot state on, over the disk, with a client that sends
--- nothing
+-- the turns of the schedule from the image's boot state on, over the disk, with these client frames
 pub record IsReady (mib : ℕ) (texts : Texts) (turns : List Turn) (boot : State) : Type 0 where
   pub booted : boot_state mib texts.image texts.disk ≡ Some boot
-  pub disk : IsDisk texts.disk
-  pub client : texts.client ≡ []
-  pub schedule : IsTurnSchedule turns texts.schedule
+  pub disk : is_length (length texts.disk) ≡ true
+  pub frames : List (List ℕ)
+  pub client : IsSplit texts.client frames []
+  pub schedule : IsTurnSchedule turns texts.lines
 
 -- what the files that are read make ready
-pub record Prepared (c : ReplayWords) (shelf : ShelfState) : Type 0 where
+pub record Prepared (c : RunWords) (shelf : ShelfState) : Type 0 where
   pub texts : Texts
   pub read : AreRead shelf c texts
   pub turns : List Turn
@@ -96,40 +97,19 @@ IsCutOff old new out boot turns =
 
 -- ---- the ends of a replay
 
-pub record ReplayDone (c : ReplayWords) (old new : ShelfState) (line : List ℕ) : Type 0 where
+pub record ReplayDone (c : RunWords) (old new : ShelfState) (line : List ℕ) : Type 0 where
   pub prepared : Prepared c old
   pub run : RunDone new c.out prepared.boot prepared.turns line
 
-pub record ReplayCutOff (c : ReplayWords) (old new : ShelfState) : Type 0 where
+pub record ReplayCutOff (c : RunWords) (old new : ShelfState) : Type 0 where
   pub prepared : Prepared c old
   pub run : IsCutOff old new c.out prepared.boot prepared.turns
 
-pub record ReplayUnsupported (c : ReplayWords) (old new : ShelfState) : Type 0 where
+pub record ReplayUnsupported (c : RunWords) (old new : ShelfState) : Type 0 where
   pub prepared : Prepared c old
   pub run : RunUnsupported new c.out prepared.boot prepared.turns
 
--- ---- the conditions on what is read
-
--- a case of the loader holds of the image, and this is the first
-pub record HasBadImage (c : ReplayWords) (shelf : ShelfState) (number : ℕ) : Type 0 where
-  pub image : List ℕ
-  pub read : HasFile shelf c.image image
-  pub first : elf_case (ram_size c.mib) image ≡ Some number
-
--- none holds, and something else isn't built
-pub record HasUnsupportedInput (c : ReplayWords) (shelf : ShelfState) : Type 0 where
-  pub texts : Texts
-  pub read : AreRead shelf c texts
-  pub none : elf_case (ram_size c.mib) texts.image ≡ None
-  pub why : IsNotBuilt texts
-
 -- a turn of the schedule has a step that isn't built
-pub record HasUnsupportedStep (c : ReplayWords) (shelf : ShelfState) : Type 0 where
+pub record HasUnsupportedStep (c : RunWords) (shelf : ShelfState) : Type 0 where
   pub prepared : Prepared c shelf
   pub stopped : run_from prepared.boot prepared.turns ≡ None
-
--- the run has a last state
-pub record CanRun (c : ReplayWords) (shelf : ShelfState) : Type 0 where
-  pub prepared : Prepared c shelf
-  pub last : State
-  pub ran : run_from prepared.boot prepared.turns ≡ Some last

@@ -2,38 +2,26 @@
 use Rattle.std.specs.Prelude.{◌≡◌, ◌≢◌, ℕ, List, [], Some, None, ◌⊎◌}
 use Rattle.std.specs.Io.{StartsWith}
 use Rattle.colo_base.specs.Shelf.{ShelfState}
-use Rattle.elf_load.specs.Boot.{elf_case}
 use Rattle.replay_log.specs.Texts.{record_text}
 use Rattle.colo_top.specs.declared.fault.Fault.{Fault}
-use Rattle.colo_top.specs.declared.fault.Fault.TheVariants.{Usage, Image, Read, Write, NoMemory, NotBuilt}
+use Rattle.colo_top.specs.declared.fault.Fault.TheVariants.{Usage, Refused, Read, Write, NoMemory}
+use Rattle.colo_top.specs.declared.fault.Refusal.TheVariants.{NotBuilt}
 use Rattle.colo_top.specs.declared.output.Output.TheVariants.{Log}
 use Rattle.colo_top.specs.declared.schedule.Turn.{Turn}
-use Rattle.colo_top.specs.Boot.{ram_size}
 use Rattle.colo_top.specs.Command.{replay_outputs}
 use Rattle.colo_top.specs.Files.{AppendsPart, HasFiles, WriteFailed}
 use Rattle.colo_top.specs.Idle.{idle_event}
 use Rattle.colo_top.specs.Machine.{State, run_turn}
-use Rattle.colo_top.specs.Reading.{Texts, IsNotBuilt}
 use Rattle.colo_top.specs.Replay.{IsCutOff, RunCutOff, RunUnsupported, run_files}
+use Rattle.colo_top.specs.Tests.{Finds}
 
--- why the files that were read make no run: the first case of the loader that holds of the image;
--- else what isn't built; or memory was refused
-abbrev pub Refuses : ℕ → Texts → Fault → Type 0
-Refuses mib texts Usage = ⊥
-Refuses mib texts (Image number) = elf_case (ram_size mib) texts.image ≡ Some number
-Refuses mib texts Read = ⊥
-Refuses mib texts Write = ⊥
-Refuses mib texts NoMemory = Unit {0}
-Refuses mib texts NotBuilt = (elf_case (ram_size mib) texts.image ≡ None) × IsNotBuilt texts
-
--- why the image boots no machine
-abbrev pub RefusesImage : ℕ → List ℕ → Fault → Type 0
-RefusesImage mib image Usage = ⊥
-RefusesImage mib image (Image number) = elf_case (ram_size mib) image ≡ Some number
-RefusesImage mib image Read = ⊥
-RefusesImage mib image Write = ⊥
-RefusesImage mib image NoMemory = Unit {0}
-RefusesImage mib image NotBuilt = ⊥
+-- a test of what is read refuses it, or memory was refused
+abbrev pub FailsTest : Finds → Fault → Type 0
+FailsTest test Usage = ⊥
+FailsTest test (Refused refusal) = test (Some refusal)
+FailsTest test Read = ⊥
+FailsTest test Write = ⊥
+FailsTest test NoMemory = Unit {0}
 
 -- the turn was run, and a prefix of its event's text written
 pub record TurnCutOff (old new : ShelfState) (out : List ℕ) (machine : State)
@@ -45,23 +33,22 @@ pub record TurnCutOff (old new : ShelfState) (out : List ℕ) (machine : State)
 -- how a turn fails
 abbrev pub TurnFails : ShelfState → ShelfState → List ℕ → State → Turn → Fault → Type 0
 TurnFails old new out machine turn Usage = ⊥
-TurnFails old new out machine turn (Image number) = ⊥
 TurnFails old new out machine turn Read = ⊥
 TurnFails old new out machine turn Write =
     WriteFailed out replay_outputs old new × TurnCutOff old new out machine turn
 TurnFails old new out machine turn NoMemory = (new ≡ old) ⊎ TurnCutOff old new out machine turn
-TurnFails old new out machine turn NotBuilt =
-    (new ≡ old) × (run_turn machine turn.ticks turn.steps ≡ None)
+TurnFails old new out machine turn (Refused refusal) =
+    (new ≡ old) × (run_turn machine turn.ticks turn.steps ≡ None) × (refusal ≡ NotBuilt)
 
 -- how a schedule fails
 abbrev pub RunFails : ShelfState → ShelfState → List ℕ → State → List Turn → Fault → Type 0
 RunFails old new out machine turns Usage = ⊥
-RunFails old new out machine turns (Image number) = ⊥
 RunFails old new out machine turns Read = ⊥
 RunFails old new out machine turns Write =
     WriteFailed out replay_outputs old new × RunCutOff new out machine turns
 RunFails old new out machine turns NoMemory = RunCutOff new out machine turns
-RunFails old new out machine turns NotBuilt = RunUnsupported new out machine turns
+RunFails old new out machine turns (Refused refusal) =
+    RunUnsupported new out machine turns × (refusal ≡ NotBuilt)
 
 -- memory and disk were written after the log
 abbrev pub WritesLast : ShelfState → ShelfState → List ℕ → List ℕ → List ℕ → Type 0
@@ -85,9 +72,9 @@ WritesLastPart old new out ram disk =
 -- how a run fails that was prepared
 abbrev pub PreparedFails : ShelfState → ShelfState → List ℕ → State → List Turn → Fault → Type 0
 PreparedFails old new out boot turns Usage = ⊥
-PreparedFails old new out boot turns (Image number) = ⊥
 PreparedFails old new out boot turns Read = ⊥
 PreparedFails old new out boot turns Write =
     WriteFailed out replay_outputs old new × IsCutOff old new out boot turns
 PreparedFails old new out boot turns NoMemory = IsCutOff old new out boot turns
-PreparedFails old new out boot turns NotBuilt = RunUnsupported new out boot turns
+PreparedFails old new out boot turns (Refused refusal) =
+    RunUnsupported new out boot turns × (refusal ≡ NotBuilt)

@@ -5,12 +5,14 @@ use Rattle.colo_base.specs.Count.{Increased}
 use Rattle.colo_base.specs.Link.{LinkState}
 use Rattle.colo_base.specs.Shelf.{ShelfState, ChangesOnly}
 use Rattle.colo_base.specs.Sink.{SinkState, Puts, PutsPart, SinkGoesOn}
-use Rattle.colo_top.specs.declared.fault.Fault.TheVariants.{Usage, Read, Write, NoMemory, NotBuilt}
+use Rattle.colo_top.specs.declared.fault.Fault.TheVariants.{Usage, Read, Write, NoMemory}
+use Rattle.colo_top.specs.declared.fault.Refusal.{Refusal}
+use Rattle.colo_top.specs.declared.fault.Refusal.TheVariants.{BadImage, BadDisk, BadLine, BadClient, NotBuilt}
 use Rattle.colo_top.specs.Command.{reads, out_of, outputs_of, is_online}
 use Rattle.colo_top.specs.Files.{IsFileOf, WriteFailed}
-use Rattle.colo_top.specs.Outcome.{IsUntouched, FailsToRead, FailsToWrite, RunsOutOfMemory, Completes, IsUnsupported, BadImage, UnsupportedInput, UnsupportedStep, CanComplete}
-use Rattle.colo_top.specs.Reading.{FetchFailed}
-use Rattle.colo_top.specs.Status.{line, image_line}
+use Rattle.colo_top.specs.Outcome.{IsUntouched, FailsTests, FailsInRun, FailsToRead, FailsToWrite, RunsOutOfMemory, Completes, Judges, Stops}
+use Rattle.colo_top.specs.Reading.{FetchFailed, IsMissing}
+use Rattle.colo_top.specs.Status.{line, refusal_line, refusal_status}
 use Rattle.colo_top.specs.Words.{Command, read_words}
 
 -- the outside at one moment
@@ -50,12 +52,19 @@ pub record NoCommand (call : Call) : Type 0 where
   pub files : IsUntouched call.before.shelf call.after.shelf
   pub put : Prints call.before.sink call.after.sink (line Usage)
 
--- 2: the loader refuses the image
-pub record RefusesImage (call : Call) (command : Command) : Type 0 where
-  pub number : ℕ
-  pub first : BadImage command call.before.shelf number
-  pub files : IsUntouched call.before.shelf call.after.shelf
-  pub put : Prints call.before.sink call.after.sink (image_line number)
+-- 2, 3, 4, 5 and 9: a test refuses what the command reads, before any file is created
+pub record IsRefused (call : Call) (refusal : Refusal) (command : Command) : Type 0 where
+  pub work : FailsTests command call.before.shelf call.after.shelf refusal
+  pub put : Prints call.before.sink call.after.sink (refusal_line refusal)
+
+-- or its run is stopped
+pub record IsStopped (call : Call) (refusal : Refusal) (command : Command) : Type 0 where
+  pub work : FailsInRun command call.before.shelf call.after.shelf refusal
+  pub put : Prints call.before.sink call.after.sink (refusal_line refusal)
+
+abbrev pub EndsBy : Call → Refusal → Type 0
+EndsBy call refusal =
+    OfCommand call (IsRefused call refusal) ⊎ OfCommand call (IsStopped call refusal)
 
 -- 6: a file can't be read
 pub record ReadFailed (call : Call) (command : Command) : Type 0 where
@@ -78,21 +87,19 @@ pub record OutOfMemory (call : Call) (command : Command) : Type 0 where
   pub work : RunsOutOfMemory command call.before.shelf call.after.shelf
   pub put : Prints call.before.sink call.after.sink (line NoMemory)
 
--- 9: something isn't built
-pub record NotSupported (call : Call) (command : Command) : Type 0 where
-  pub work : IsUnsupported command call.before.shelf call.after.shelf
-  pub put : Prints call.before.sink call.after.sink (line NotBuilt)
-
 -- the table of statuses; no other comes
 abbrev pub Means : Call → ℕ → Type 0
 Means call status =
     MatchBool (status == 0) (OfCommand call (Done call))
     (MatchBool (status == 1) (NoCommand call)
-    (MatchBool (status == 2) (OfCommand call (RefusesImage call))
+    (MatchBool (status == 2) ((number : ℕ) × EndsBy call (BadImage number))
+    (MatchBool (status == 3) ((size : ℕ) × EndsBy call (BadDisk size))
+    (MatchBool (status == 4) ((number : ℕ) × EndsBy call (BadLine number))
+    (MatchBool (status == 5) ((place : ℕ) × EndsBy call (BadClient place))
     (MatchBool (status == 6) (OfCommand call (ReadFailed call))
     (MatchBool (status == 7) (OfCommand call (OutputFailed call) ⊎ OfCommand call (LineFailed call))
     (MatchBool (status == 8) (OfCommand call (OutOfMemory call))
-    (MatchBool (status == 9) (OfCommand call (NotSupported call)) ⊥))))))
+    (MatchBool (status == 9) (EndsBy call NotBuilt) ⊥)))))))))
 
 -- ---- when each status comes, where contents can be observed
 
@@ -103,25 +110,28 @@ Gives call P Q =
     (command : Command) → read_words call.words ≡ Some command
     → IsTrue call.before.shelf.observable → P command → Q call.status
 
--- the statuses where a case of the loader holds: 2, unless a file can't be read or memory is
--- refused
-abbrev pub OnBadImage : ℕ → Type 0
-OnBadImage status = (status ≡ 2) ⊎ ((status ≡ 6) ⊎ (status ≡ 8))
+-- the statuses where a test finds this: its own, unless a file can't be read or memory is refused
+abbrev pub OnRefusal : Refusal → ℕ → Type 0
+OnRefusal refusal status = (status ≡ refusal_status refusal) ⊎ ((status ≡ 6) ⊎ (status ≡ 8))
 
--- those where an input isn't supported
-abbrev pub OnUnsupportedInput : ℕ → Type 0
-OnUnsupportedInput status = (status ≡ 9) ⊎ ((status ≡ 6) ⊎ (status ≡ 8))
+-- those where this stops the run: files are written before it
+abbrev pub OnStop : Refusal → ℕ → Type 0
+OnStop refusal status =
+    (status ≡ refusal_status refusal) ⊎ ((status ≡ 6) ⊎ ((status ≡ 7) ⊎ (status ≡ 8)))
 
--- those where a step isn't supported: files are written before it
-abbrev pub OnUnsupportedStep : ℕ → Type 0
-OnUnsupportedStep status = (status ≡ 9) ⊎ ((status ≡ 6) ⊎ ((status ≡ 7) ⊎ (status ≡ 8)))
+-- those where a file that is to be read is missing
+abbrev pub OnMissing : ℕ → Type 0
+OnMissing status = (status ≡ 6) ⊎ (status ≡ 8)
 
 -- those where nothing stands against the command and no count increased
 abbrev pub OnCompletion : ℕ → Type 0
 OnCompletion status = (status ≡ 0) ⊎ (status ≡ 8)
 
--- no count increased of a file that the command reads or writes, nor the sink's
-pub record NoFailure (call : Call) (command : Command) : Type 0 where
+-- no test finds anything, nothing stops the run, and no count increased of a file that the command
+-- reads or writes, nor the sink's
+pub record NothingAgainst (call : Call) (command : Command) : Type 0 where
+  pub tests : Judges command call.before.shelf None
+  pub run : (refusal : Refusal) → Stops command call.before.shelf refusal → ⊥
   pub reads : FetchFailed (reads command) call.before.shelf call.after.shelf → ⊥
   pub writes : WriteFailed (out_of command)
       (outputs_of command) call.before.shelf call.after.shelf → ⊥
@@ -143,17 +153,15 @@ pub record Ends (call : Call) : Type 0 where
   pub means : Means call call.status
   -- 1 comes where the words spell no command
   pub finds_no_command : read_words call.words ≡ None → call.status ≡ 1
-  -- 2 comes where a case of the loader holds of the image
-  pub finds_bad_image : (number : ℕ) → Gives call
-      (λ command. BadImage command call.before.shelf number) OnBadImage
-  -- 9 comes where an input or a step isn't supported
-  pub finds_unsupported_input : Gives call
-      (λ command. UnsupportedInput command call.before.shelf) OnUnsupportedInput
-  pub finds_unsupported_step : Gives call
-      (λ command. UnsupportedStep command call.before.shelf) OnUnsupportedStep
+  -- 6 comes where a file that is to be read is missing
+  pub finds_missing : Gives call (λ command. IsMissing call.before.shelf (reads command)) OnMissing
+  -- 2, 3, 4, 5 and 9 come where a test finds their refusal, or it stops the run
+  pub finds_refusal : (refusal : Refusal) → Gives call
+      (λ command. Judges command call.before.shelf (Some refusal)) (OnRefusal refusal)
+  pub finds_stop : (refusal : Refusal) → Gives call
+      (λ command. Stops command call.before.shelf refusal) (OnStop refusal)
   -- 0 comes where nothing stands against it
-  pub completes : Gives call (λ command. CanComplete command call.before.shelf
-      × NoFailure call command) OnCompletion
+  pub completes : Gives call (NothingAgainst call) OnCompletion
   -- no file changes but those that the command writes
   pub other_files : ChangesOnly (IsWritten call) call.before.shelf call.after.shelf
   pub sink : SinkGoesOn call.before.sink call.after.sink

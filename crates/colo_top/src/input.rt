@@ -1,19 +1,18 @@
-//! The files that a replay reads.
+//! The files that a command reads.
 
-ghost use Rattle.std.specs.Prelude.{◌≡◌, ◌↔◌, IfOk, IsErrOf, IsTrue, OnOk};
+ghost use Rattle.std.specs.Prelude.{◌≡◌, IfOk, IsErrOf, OnOk};
 ghost use Rattle.colo_base.specs.Count.{Increased};
 ghost use Rattle.colo_base.specs.Shelf.{NoFetchFailed, NoWriteFailed};
-ghost use Rattle.colo_top.specs.Command.{replay_of, reads};
+ghost use Rattle.colo_top.specs.Command.{run_of, run_reads};
 ghost use Rattle.colo_top.specs.Files.{HasFile, KeepsFiles};
 ghost use Rattle.colo_top.specs.ReadBytes.{texts_of};
-ghost use Rattle.colo_top.specs.Reading.{AreRead, FetchFailed, IsDisk};
-ghost use Rattle.colo_top.specs.Words.{replay_command};
+ghost use Rattle.colo_top.specs.Reading.{AreRead, FetchFailed};
 
-use crate::words::Replay;
+use crate::words::Run;
 use colo_base::{Shelf, ShelfFault};
 use std::alloc::Global;
 
-/// The bytes of the files that a replay reads.
+/// The bytes of the files that a run reads.
 #[derive(Drop)]
 pub struct Inputs {
     /// An ELF file.
@@ -23,11 +22,11 @@ pub struct Inputs {
     /// The client's frames, each after its length.
     pub client: Vec<u8>,
     /// The lines of the events.
-    pub schedule: Vec<u8>,
+    pub lines: Vec<u8>,
 }
 
 /// The bytes of a file.
-fn read_file<S: Shelf>(alloc: Global, shelf: &mut S, name: &str) -> Result<Vec<u8>, ShelfFault>
+pub fn read_file<S: Shelf>(alloc: Global, shelf: &mut S, name: &str) -> Result<Vec<u8>, ShelfFault>
     ensures bytes { IfOk result (λ file. HasFile (S.state shelf.old) name.now file.items) }
     ensures files { KeepsFiles (S.state shelf.old) (S.state shelf.new) }
     ensures writes { NoWriteFailed (S.state shelf.old) (S.state shelf.new) }
@@ -45,33 +44,24 @@ fn read_file<S: Shelf>(alloc: Global, shelf: &mut S, name: &str) -> Result<Vec<u
 pub fn read_all<S: Shelf>(
     alloc: Global,
     shelf: &mut S,
-    words: &Replay<'_>,
+    words: &Run<'_>,
 ) -> Result<Inputs, ShelfFault>
-    ensures read { IfOk result (λ inputs. AreRead (S.state shelf.old) (replay_of words.now)
+    ensures read { IfOk result (λ inputs. AreRead (S.state shelf.old) (run_of words.now)
         (texts_of inputs)) }
     ensures files { KeepsFiles (S.state shelf.old) (S.state shelf.new) }
     ensures writes { NoWriteFailed (S.state shelf.old) (S.state shelf.new) }
     ensures counts { OnOk result (NoFetchFailed (S.state shelf.old) (S.state shelf.new)) }
     ensures cause { IsErrOf result ShelfFault.Failed
-        → FetchFailed (reads (replay_command (replay_of words.now))) (S.state shelf.old)
-        (S.state shelf.new) }
+        → FetchFailed (run_reads (run_of words.now)) (S.state shelf.old) (S.state shelf.new) }
 {
     let image = read_file(alloc, shelf, words.image)?;
     let disk = read_file(alloc, shelf, words.disk)?;
     let client = read_file(alloc, shelf, words.client)?;
-    let schedule = read_file(alloc, shelf, words.schedule)?;
+    let lines = read_file(alloc, shelf, words.lines)?;
     Ok(Inputs {
         image,
         disk,
         client,
-        schedule,
+        lines,
     })
-}
-
-/// Whether the bytes are a disk: whole sectors of 512 bytes, at least one, in at most 16 MiB.
-pub fn is_disk(bytes: &[u8]) -> bool
-    ensures { IsTrue result ↔ IsDisk bytes.now }
-{
-    let length = bytes.len();
-    0 < length && length % 512 == 0 && length <= 16_777_216
 }

@@ -2,18 +2,20 @@
 #![tactic(auto)]
 
 mod board;
+mod client;
 mod clint;
-mod demo;
 mod devices;
 mod fault;
 mod input;
 mod log;
 mod machine;
+mod one_file;
 mod output;
 mod prepare;
 mod ram;
 mod run;
 mod schedule;
+mod splice;
 mod top;
 mod words;
 mod write_image;

@@ -21,8 +21,8 @@ pub enum Output {
     Ram,
     /// The disk after the run.
     Disk,
-    /// A demo image, in the file that the command names.
-    Image,
+    /// The one file of a command, which has the name that the words give.
+    Named,
 }
 
 /// The files of a replay, in the order in which they are created.
@@ -34,8 +34,8 @@ pub const REPLAY_OUTPUTS: [Output; 5] = [
     Output::Disk,
 ];
 
-/// The file of a demo image.
-pub const IMAGE_OUTPUTS: [Output; 1] = [Output::Image];
+/// The one file of a command that names it.
+pub const NAMED_OUTPUTS: [Output; 1] = [Output::Named];
 
 /// What the name of a written file ends with.
 fn ending_of(output: Output) -> &'static str
@@ -47,7 +47,7 @@ fn ending_of(output: Output) -> &'static str
         Output::Wire => ".wire",
         Output::Ram => ".ram",
         Output::Disk => ".disk",
-        Output::Image => "",
+        Output::Named => "",
     }
 }
 

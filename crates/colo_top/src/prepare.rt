@@ -1,17 +1,17 @@
-//! What a replay runs, from the files that it reads.
+//! What a run is made of, from the files that it reads.
 
-ghost use Rattle.std.specs.Prelude.{◌≡◌, ◌≤◌, [], Some, None, IfOk, IfErr, OnOk};
-ghost use Rattle.std.specs.Bool.{OnTrue, OnFalse};
+ghost use Rattle.std.specs.Prelude.{◌≡◌, ◌≤◌, [], Some, None, true, length, IfOk, IfErr, OnOk};
+ghost use Rattle.disk_buffers.specs.Sectors.{is_length};
 ghost use Rattle.elf_load.specs.Boot.{elf_case};
 ghost use Rattle.colo_top.specs.Boot.{boot_state, ram_size};
-ghost use Rattle.colo_top.specs.Reading.{IsDisk, IsNotBuilt};
 ghost use Rattle.colo_top.specs.ReadBytes.{texts_of};
 ghost use Rattle.colo_top.specs.Replay.{IsReady};
-ghost use Rattle.colo_top.specs.RunSteps.{Refuses, RefusesImage};
-ghost use Rattle.colo_top.specs.Status.{HasLine};
+ghost use Rattle.colo_top.specs.RunSteps.{FailsTest};
+ghost use Rattle.colo_top.specs.Tests.{TestDisk, TestImage, TestRun, TestSchedule};
 
-use crate::fault::Fault;
-use crate::input::{Inputs, is_disk};
+use crate::client::read_client;
+use crate::fault::{Fault, Refusal};
+use crate::input::Inputs;
 use crate::machine::{BootFault, Machine};
 use crate::schedule::{Turn, read_schedule};
 use std::alloc::Global;
@@ -29,49 +29,47 @@ fn boot(alloc: Global, mib: usize, image: &[u8], disk: Vec<u8>) -> Result<Machin
     requires { mib ≤ 64 }
     ensures booted { IfOk result (λ machine. boot_state mib image.now disk.items ≡ Some machine) }
     ensures no_case { OnOk result (elf_case (ram_size mib) image.now ≡ None) }
-    ensures refused { IfErr result (RefusesImage mib image.now) }
-    ensures line { IfErr result HasLine }
+    ensures refused { IfErr result (FailsTest (TestImage mib image.now)) }
 {
     match Machine::boot(alloc, mib, image, disk) {
         Ok(machine) => Ok(machine),
-        Err(BootFault::Elf(fault)) => Err(Fault::Image(fault.number)),
+        Err(BootFault::Elf(fault)) => Err(Fault::Refused(Refusal::BadImage(fault.number))),
         Err(BootFault::NoMemory) => Err(Fault::NoMemory),
     }
 }
 
-/// Whether the disk is one and the client sends nothing.
-fn is_built(inputs: &Inputs) -> bool
-    ensures disk { OnTrue result (IsDisk inputs.now.disk.items) }
-    ensures client { OnTrue result (inputs.now.client.items ≡ []) }
-    ensures not { OnFalse result (IsNotBuilt (texts_of inputs.now)) }
+/// Tests the disk's length.
+fn test_disk(bytes: &[u8]) -> Result<(), Fault>
+    ensures ok { OnOk result (is_length (length bytes.now) ≡ true) }
+    ensures refused { IfErr result (FailsTest (TestDisk bytes.now)) }
 {
-    if !is_disk(&inputs.disk) {
-        return false;
+    let length = bytes.len();
+    if length > 0 && length % 512 == 0 && length <= 16_777_216 {
+        Ok(())
+    } else {
+        Err(Fault::Refused(Refusal::BadDisk(length as u64)))
     }
-    inputs.client.is_empty()
 }
 
-/// What the files make a replay run. The image is tested first.
+/// What the files make a replay run. They are tested in this order: the image, the disk, the client
+/// stream, the schedule.
 pub fn prepare(alloc: Global, mib: usize, inputs: Inputs) -> Result<Ready, Fault>
     requires { mib ≤ 64 }
     ensures ready { IfOk result (λ ready. IsReady mib
         (texts_of inputs) ready.turns.items ready.machine) }
-    ensures refused { IfErr result (Refuses mib (texts_of inputs)) }
-    ensures line { IfErr result HasLine }
+    ensures refused { IfErr result (FailsTest (TestRun mib
+        (TestSchedule inputs.lines.items) (texts_of inputs))) }
 {
-    let built = is_built(&inputs);
+    let tested = test_disk(&inputs.disk);
     let Inputs {
         image,
         disk,
-        schedule,
-        ..
+        client,
+        lines,
     } = inputs;
     let machine = boot(alloc, mib, &image, disk)?;
-    if !built {
-        return Err(Fault::NotBuilt);
-    }
-    match read_schedule(alloc, &schedule)? {
-        Some(turns) => Ok(Ready { machine, turns }),
-        None => Err(Fault::NotBuilt),
-    }
+    tested?;
+    read_client(alloc, &client)?;
+    let turns = read_schedule(alloc, &lines)?;
+    Ok(Ready { machine, turns })
 }

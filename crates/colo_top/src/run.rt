@@ -3,7 +3,7 @@
 ghost use Rattle.std.specs.Prelude.{◌≡◌, [], Some, IfOk, IfErr, OnOk, OnErr, IsErrOf, string_bytes};
 ghost use Rattle.colo_base.specs.Shelf.{NoWriteFailed};
 ghost use Rattle.replay_log.specs.Texts.{record_text};
-ghost use Rattle.colo_top.specs.Command.{replay_of, replay_outputs};
+ghost use Rattle.colo_top.specs.Command.{replay_outputs, run_of};
 ghost use Rattle.colo_top.specs.Files.{HasFiles, Appends, WriteFailed, WritesOnly};
 ghost use Rattle.colo_top.specs.Idle.{idle_event, idle_events};
 ghost use Rattle.colo_top.specs.Log.{log_text};
@@ -12,17 +12,16 @@ ghost use Rattle.colo_top.specs.Outcome.{Completes, FailsBy};
 ghost use Rattle.colo_top.specs.Replay.{RunDone, run_files};
 ghost use Rattle.colo_top.specs.Run.{run_from};
 ghost use Rattle.colo_top.specs.RunSteps.{WritesLast, WritesLastPart, TurnFails, RunFails, PreparedFails};
-ghost use Rattle.colo_top.specs.Status.{HasLine};
 ghost use Rattle.colo_top.specs.Words.{replay_command};
 
-use crate::fault::{Fault, read_fault, turn_fault, write_fault};
+use crate::fault::{Fault, Refusal, read_fault, write_fault};
 use crate::input::read_all;
 use crate::log::{idle_text, summary};
-use crate::machine::Machine;
+use crate::machine::{Machine, TurnFault};
 use crate::output::{Output, REPLAY_OUTPUTS, append_to, create_all};
 use crate::prepare::{Ready, prepare};
 use crate::schedule::Turn;
-use crate::words::Replay;
+use crate::words::Run;
 use colo_base::{Shelf, ShelfFault};
 use std::alloc::Global;
 
@@ -46,8 +45,10 @@ fn run_turn<S: Shelf>(
     ensures fails { IfErr result (TurnFails (S.state shelf.old)
         (S.state shelf.new) out.now machine.old turn.now) }
 {
-    if let Err(fault) = machine.turn(turn.ticks, turn.steps) {
-        return Err(turn_fault(fault));
+    match machine.turn(turn.ticks, turn.steps) {
+        Ok(()) => {}
+        Err(TurnFault::NotBuilt) => return Err(Fault::Refused(Refusal::NotBuilt)),
+        Err(TurnFault::NoMemory) => return Err(Fault::NoMemory),
     }
     let Ok(text) = idle_text(alloc, turn) else {
         return Err(Fault::NoMemory);
@@ -130,12 +131,11 @@ fn run_prepared<S: Shelf>(
 
 /// Carries out a replay: reads its files, runs its schedule and writes its files. Gives the
 /// summary's line.
-pub fn replay<S: Shelf>(alloc: Global, shelf: &mut S, words: &Replay<'_>) -> Result<String, Fault>
-    ensures done { IfOk result (λ line. Completes (replay_command (replay_of words.now))
+pub fn replay<S: Shelf>(alloc: Global, shelf: &mut S, words: &Run<'_>) -> Result<String, Fault>
+    ensures done { IfOk result (λ line. Completes (replay_command (run_of words.now))
         (S.state shelf.old) (S.state shelf.new) (string_bytes line)) }
-    ensures fails { IfErr result (FailsBy (replay_command (replay_of words.now))
+    ensures fails { IfErr result (FailsBy (replay_command (run_of words.now))
         (S.state shelf.old) (S.state shelf.new)) }
-    ensures line { IfErr result HasLine }
 {
     let inputs = match read_all(alloc, shelf, words) {
         Ok(inputs) => inputs,

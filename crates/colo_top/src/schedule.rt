@@ -1,8 +1,11 @@
 //! The schedules that are run: those whose lines are all turns of the primary.
 
-ghost use Rattle.std.specs.Prelude.{◌≡◌, List, map, IfOk, IfSome, IfNone};
+ghost use Rattle.std.specs.Prelude.{◌≡◌, ◌≢◌, List, map, IfOk, IfErr, IfSome, IfNone};
+ghost use Rattle.colo_top.specs.RunSteps.{FailsTest};
 ghost use Rattle.colo_top.specs.Schedule.{IsTurnSchedule, line_of};
+ghost use Rattle.colo_top.specs.Tests.{TestSchedule};
 
+use crate::fault::{Fault, Refusal};
 use colo_base::NoMemory;
 use replay_log::{Line, LineFault, parse_schedule};
 use std::alloc::Global;
@@ -24,7 +27,7 @@ pub struct Turn {
 fn turns_in(alloc: Global, lines: &[Line]) -> Result<Option<Vec<Turn>>, NoMemory>
     ensures some { IfOk result (λ r. IfSome r (λ turns. map line_of turns.items ≡ lines.now)) }
     ensures none { IfOk result (λ r. IfNone r
-        ((turns : List Turn) → map line_of turns ≡ lines.now → ⊥)) }
+        ((turns : List Turn) → map line_of turns ≢ lines.now)) }
 {
     let mut turns = Vec::new(alloc);
     for line in lines {
@@ -41,15 +44,18 @@ fn turns_in(alloc: Global, lines: &[Line]) -> Result<Option<Vec<Turn>>, NoMemory
     Ok(Some(turns))
 }
 
-/// The turns whose schedule the text is; `None` exactly where it is that of none.
-pub fn read_schedule(alloc: Global, text: &[u8]) -> Result<Option<Vec<Turn>>, NoMemory>
-    ensures good { IfOk result (λ r. IfSome r (λ turns. IsTurnSchedule turns.items text.now)) }
-    ensures none { IfOk result (λ r. IfNone r
-        ((turns : List Turn) → IsTurnSchedule turns text.now → ⊥)) }
+/// The turns whose schedule the text is. It is refused where a line is bad, and where a line isn't
+/// a turn of the primary.
+pub fn read_schedule(alloc: Global, text: &[u8]) -> Result<Vec<Turn>, Fault>
+    ensures turns { IfOk result (λ turns. IsTurnSchedule turns.items text.now) }
+    ensures refused { IfErr result (FailsTest (TestSchedule text.now)) }
 {
     match parse_schedule(alloc, text) {
-        Ok(lines) => turns_in(alloc, &lines),
-        Err(LineFault::NoMemory) => Err(NoMemory),
-        Err(LineFault::Bad { .. }) => Ok(None),
+        Ok(lines) => match turns_in(alloc, &lines)? {
+            Some(turns) => Ok(turns),
+            None => Err(Fault::Refused(Refusal::NotBuilt)),
+        },
+        Err(LineFault::NoMemory) => Err(Fault::NoMemory),
+        Err(LineFault::Bad { line, .. }) => Err(Fault::Refused(Refusal::BadLine(line))),
     }
 }

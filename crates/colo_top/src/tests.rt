@@ -176,11 +176,103 @@ fn each_status_prints_its_line(rt: HostRuntime) -> Result<(), Fail> {
     Ok(())
 }
 
+/// Files of a replay that are refused: a name, its bytes, and the status and the line.
+const REFUSED: [(&str, &[u8], u8, &str); 8] = [
+    ("disk", &[0; 513], 3, "disk: 513\n"),
+    ("disk", b"", 3, "disk: 0\n"),
+    ("client", &[0, 1, 0x10, 1], 5, "client: 0\n"),
+    ("schedule", b"x p\nx s\n", 4, "line 2\n"),
+    ("schedule", b"r\n", 4, "line 1\n"),
+    ("schedule", b"P 1 2 0 0\n", 4, "line 1\n"),
+    ("schedule", b"P 1 0 0 0", 4, "line 1\n"),
+    ("schedule", b"P 1 0 0 0\nS 1 0 0 0\n", 9, "not built\n"),
+];
+
 #[test]
-fn the_mute_image_is_written_and_runs(rt: HostRuntime) -> Result<(), Fail> {
+fn a_refused_file_leaves_the_others_as_they_are(rt: HostRuntime) -> Result<(), Fail> {
+    let jump = image(rt.alloc(), &[], &JUMP)?;
+    for (name, bytes, status, line) in REFUSED {
+        let mut shelf = files(rt.alloc(), &jump, THREE_TURNS)?;
+        shelf.set(name, bytes)?;
+        ends(&rt, &REPLAY, &mut shelf, status, line)?;
+        assert!(rt; shelf.contents("out.log").is_none(), "{line}");
+    }
+    Ok(())
+}
+
+/// A client stream of one frame of 60 bytes, and then two bytes.
+#[test]
+fn a_cut_client_stream_is_named_by_its_byte(rt: HostRuntime) -> Result<(), Fail> {
+    let jump = image(rt.alloc(), &[], &JUMP)?;
+    let mut shelf = files(rt.alloc(), &jump, THREE_TURNS)?;
+    let mut stream = [0; 66];
+    stream[3] = 60;
+    shelf.set("client", &stream)?;
+    ends(&rt, &REPLAY, &mut shelf, 5, "client: 64\n")?;
+    Ok(())
+}
+
+/// A client stream of one frame of 1,600 bytes, which a replay of primary turns doesn't take.
+#[test]
+fn a_whole_client_stream_is_no_fault(rt: HostRuntime) -> Result<(), Fail> {
+    let jump = image(rt.alloc(), &[], &JUMP)?;
+    let mut shelf = files(rt.alloc(), &jump, THREE_TURNS)?;
+    let mut stream = [0; 1604];
+    stream[2] = 6;
+    stream[3] = 64;
+    shelf.set("client", &stream)?;
+    ends(
+        &rt,
+        &REPLAY,
+        &mut shelf,
+        0,
+        "lines 3 released 0 captured 0\n",
+    )?;
+    Ok(())
+}
+
+/// A failover while a checkpoint is under way: the secondary's turns from the start on are left.
+const FAILOVER: &str = "c : 0 - 0 0\nP 1 1 0 0 : 0 0\n> : 1\n> : 2\nS 2 1 0 0 : 0 0\n\
+< : 12 0 0\n< : 13 1 1\nP 6 0 0 0 : - 0\nS 7 0 0 0 : - 0\n< : 13 2 1\n! q 1 differ\nP 1 0 0 0 : -\n\
+> : 3\n> : 4\n> : 9\n> : 10\nx p : 0\nr : 2\n";
+
+#[test]
+fn a_log_is_spliced(rt: HostRuntime) -> Result<(), Fail> {
+    let mut shelf = MemoryShelf::new(rt.alloc());
+    shelf.set("log", FAILOVER.as_bytes())?;
+    let words = ["splice", "log", "single"];
+    ends(&rt, &words, &mut shelf, 0, "turns 2\n")?;
+    assert!(rt; has(&shelf, "single", b"T 2 0 0 0\nT 7 - 0 0\n"));
+    shelf.set("log", b"! q 1 differ\n")?;
+    ends(&rt, &words, &mut shelf, 4, "line 1\n")?;
+    ends(
+        &rt,
+        &["splice", "none", "single"],
+        &mut shelf,
+        6,
+        "read failed\n",
+    )?;
+    ends(&rt, &["splice", "log"], &mut shelf, 1, "usage\n")?;
+    Ok(())
+}
+
+#[test]
+fn images_are_written_by_their_names_and_mute_runs(rt: HostRuntime) -> Result<(), Fail> {
     let mut shelf = files(rt.alloc(), b"", THREE_TURNS)?;
-    let words = ["image", "mute", "image"];
-    ends(&rt, &words, &mut shelf, 0, "bytes 88\n")?;
+    for name in ["echo", "clocked", "disk_log", "mute"] {
+        let mut out = MemorySink::new(rt.alloc());
+        let words = ["image", name, "image"];
+        assert_eq!(rt;
+            call(rt.alloc(), &words, &mut shelf, &mut out)?,
+            0,
+            "{name}"
+        );
+        let size = shelf.contents("image").ok_or("no image")?.len();
+        let line = format!(in rt.alloc(); "bytes {size}\n")?;
+        assert_eq!(rt; out.bytes(), line.as_bytes(), "{name}");
+    }
+    assert_eq!(rt; shelf.contents("image").ok_or("no image")?.len(), 88);
+    ends(&rt, &["image", "Mute", "image"], &mut shelf, 1, "usage\n")?;
     ends(
         &rt,
         &REPLAY,

@@ -4,12 +4,13 @@ ghost use Rattle.std.specs.Prelude.{◌≡◌, ◌⊎◌, IfOk, IfErr, string_by
 ghost use Rattle.colo_base.specs.Count.{Increased};
 ghost use Rattle.colo_base.specs.Sink.{SinkGoesOn, Puts, PutsPart};
 ghost use Rattle.colo_top.specs.Outcome.{Fails, Succeeds};
-ghost use Rattle.colo_top.specs.Status.{HasLine, line, status};
+ghost use Rattle.colo_top.specs.Status.{line, status};
 ghost use Rattle.colo_top.specs.Top.{Ends, IsOnline, Prints};
 ghost use Rattle.colo_top.specs.Words.{texts};
 
 use crate::fault::Fault;
 use crate::run::replay;
+use crate::splice::splice;
 use crate::words::{Command, read_words};
 use crate::write_image::write_image;
 use colo_base::{Clock, Link, Shelf, Sink};
@@ -21,19 +22,23 @@ use std::alloc::Global;
 ///
 /// - `replay IMAGE DISK CLIENT SCHEDULE OUT` boots the ELF file IMAGE in 16 MiB of memory, runs the primary turns of
 ///   SCHEDULE, and writes `OUT.log`, `OUT.released`, `OUT.wire`, `OUT.ram` and `OUT.disk`.
-/// - `image NAME OUT` writes a demo image to the file OUT; NAME is `mute`.
+/// - `splice LOG SINGLE` writes the single run that LOG names to the file SINGLE.
+/// - `image NAME OUT` writes a demo image to the file OUT; NAME is `mute`, `echo`, `clocked` or `disk_log`.
 ///
 /// | Status | Comes | Printed |
 /// |---|---|---|
-/// | 0 | else | `lines L released R captured C`; of `image` `bytes B` |
+/// | 0 | else | `lines L released R captured C`; of `splice` `turns T`; of `image` `bytes B` |
 /// | 1 | exactly where the words spell no command | `usage` |
-/// | 2 | where a case of the loader holds of the image | `image: K` |
+/// | 2 | where a case of the loader holds of the image, the first | `image: K` |
+/// | 3 | where no disk has the length of DISK | `disk: LENGTH` |
+/// | 4 | where the schedule or the log has a bad line, the first | `line N` |
+/// | 5 | where the client stream has a length above 69,632 or ends within a record | `client: BYTE`, where that record begins |
 /// | 6 | only where fetching a file failed | `read failed` |
 /// | 7 | only where creating or appending to a file failed, or putting the summary | `write failed` |
 /// | 8 | where an allocation was refused | `no memory` |
-/// | 9 | where the disk isn't whole sectors, the client sends, the schedule isn't one of primary turns, or a step reaches a device | `not built` |
+/// | 9 | where the schedule is good and has a line that isn't a turn of the primary, or a step reaches a device | `not built` |
 ///
-/// The tests stand in the order 1, 6, 2, 9. Before the files are created nothing changes. A put
+/// The tests stand in the order 1, 6, 2, 3, 5, 4, 9. Before the files are created nothing changes. A put
 /// that fails is the last. Only a command that is online uses the link and the clock, and there is
 /// none yet.
 pub fn colo<S: Shelf, L: Link, K: Clock, O: Sink>(
@@ -64,11 +69,11 @@ fn run_command<S: Shelf>(alloc: Global, words: &[String], shelf: &mut S) -> Resu
     ensures done { IfOk result (λ line. Succeeds (texts words.now) (S.state shelf.old)
         (S.state shelf.new) (string_bytes line)) }
     ensures fails { IfErr result (Fails (texts words.now) (S.state shelf.old) (S.state shelf.new)) }
-    ensures line { IfErr result HasLine }
 {
     match read_words(words) {
         None => Err(Fault::Usage),
         Some(Command::Replay(words)) => replay(alloc, shelf, &words),
+        Some(Command::Splice(words)) => splice(alloc, shelf, &words),
         Some(Command::WriteImage(words)) => write_image(alloc, shelf, &words),
     }
 }
@@ -89,11 +94,10 @@ fn put_line<O: Sink>(out: &mut O, line: &[u8]) -> u8
 
 /// Puts the line of a fault. Its status stays where that fails.
 fn put_fault<O: Sink>(out: &mut O, fault: Fault) -> u8
-    requires { HasLine fault }
     ensures status { result ≡ status fault }
     ensures line { Prints (O.state out.old) (O.state out.new) (line fault) }
     ensures goes_on { SinkGoesOn (O.state out.old) (O.state out.new) }
 {
-    let _ = out.put(fault.line().as_bytes());
+    let _ = fault.put(out);
     fault.status()
 }

@@ -1,17 +1,17 @@
 //! The words of a command line.
 
-ghost use Rattle.std.specs.Prelude.{◌≡◌, option_map, string_bytes};
+ghost use Rattle.std.specs.Prelude.{◌≡◌, IfSome, option_map, string_bytes};
 ghost use Rattle.std.specs.List.{list_all};
 ghost use Rattle.std.specs.Str.{bytes_eq};
-ghost use Rattle.colo_top.specs.Command.{command_of};
-ghost use Rattle.colo_top.specs.Words.{demo_of, is_name, read_image, read_replay, read_verb, read_words, texts};
+ghost use Rattle.colo_top.specs.Command.{command_of, NamesImage};
+ghost use Rattle.colo_top.specs.Words.{is_name, read_image, read_replay, read_splice, read_verb, read_words, texts};
 
-use crate::demo::Demo;
+use colo_guests::has_image;
 
-/// The words of `replay`: the names of four files that are read, and what the files that are
-/// written are named after.
+/// The words of a run: the names of four files that are read, and what the files that are written
+/// are named after.
 #[derive(Clone, Copy)]
-pub struct Replay<'a> {
+pub struct Run<'a> {
     /// An ELF file.
     pub image: &'a str,
     /// The disk's bytes.
@@ -19,16 +19,25 @@ pub struct Replay<'a> {
     /// The client's frames, each after its length.
     pub client: &'a str,
     /// The lines of the events.
-    pub schedule: &'a str,
+    pub lines: &'a str,
     /// What the written files are named after.
     pub out: &'a str,
 }
 
-/// The words of `image`: a demo image, and the name of the file that is written.
+/// The words of `splice`: the log that is read, and the file that is written.
+#[derive(Clone, Copy)]
+pub struct Splice<'a> {
+    /// The log.
+    pub log: &'a str,
+    /// The written file.
+    pub out: &'a str,
+}
+
+/// The words of `image`: the name of a demo image, and that of the file that is written.
 #[derive(Clone, Copy)]
 pub struct WriteImage<'a> {
-    /// The image.
-    pub demo: Demo,
+    /// The image's name.
+    pub name: &'a str,
     /// The written file.
     pub out: &'a str,
 }
@@ -37,7 +46,9 @@ pub struct WriteImage<'a> {
 #[derive(Clone, Copy)]
 pub enum Command<'a> {
     /// Runs a schedule.
-    Replay(Replay<'a>),
+    Replay(Run<'a>),
+    /// Writes the single run that a log names.
+    Splice(Splice<'a>),
     /// Writes a demo image.
     WriteImage(WriteImage<'a>),
 }
@@ -68,51 +79,61 @@ fn is_word(word: &str, wanted: &str) -> bool
 
 /// What follows `replay`: five names.
 fn read_replay(names: &[String]) -> Option<Command<'_>>
-    ensures { option_map command_of result ≡ read_replay (texts names.now) }
+    ensures command { option_map command_of result ≡ read_replay (texts names.now) }
+    ensures image { IfSome result NamesImage }
 {
-    let [image, disk, client, schedule, out] = names else {
+    let [image, disk, client, lines, out] = names else {
         return None;
     };
-    Some(Command::Replay(Replay {
+    Some(Command::Replay(Run {
         image: image.as_str(),
         disk: disk.as_str(),
         client: client.as_str(),
-        schedule: schedule.as_str(),
+        lines: lines.as_str(),
         out: out.as_str(),
     }))
 }
 
-/// The demo image of this name.
-fn demo_of(name: &str) -> Option<Demo>
-    ensures { result ≡ demo_of name.now }
+/// What follows `splice`: two names.
+fn read_splice(names: &[String]) -> Option<Command<'_>>
+    ensures command { option_map command_of result ≡ read_splice (texts names.now) }
+    ensures image { IfSome result NamesImage }
 {
-    if is_word(name, "mute") {
-        Some(Demo::Mute)
-    } else {
-        None
-    }
+    let [log, out] = names else {
+        return None;
+    };
+    Some(Command::Splice(Splice {
+        log: log.as_str(),
+        out: out.as_str(),
+    }))
 }
 
 /// What follows `image`: the image's name, and a name.
 fn read_image(names: &[String]) -> Option<Command<'_>>
-    ensures { option_map command_of result ≡ read_image (texts names.now) }
+    ensures command { option_map command_of result ≡ read_image (texts names.now) }
+    ensures image { IfSome result NamesImage }
 {
     let [name, out] = names else {
         return None;
     };
-    let demo = demo_of(name.as_str())?;
+    if !has_image(name.as_str()) {
+        return None;
+    }
     Some(Command::WriteImage(WriteImage {
-        demo,
+        name: name.as_str(),
         out: out.as_str(),
     }))
 }
 
 /// The command that a first word and the names after it spell.
 fn read_verb<'a>(verb: &str, names: &'a [String]) -> Option<Command<'a>>
-    ensures { option_map command_of result ≡ read_verb verb.now (texts names.now) }
+    ensures command { option_map command_of result ≡ read_verb verb.now (texts names.now) }
+    ensures image { IfSome result NamesImage }
 {
     if is_word(verb, "replay") {
         read_replay(names)
+    } else if is_word(verb, "splice") {
+        read_splice(names)
     } else if is_word(verb, "image") {
         read_image(names)
     } else {
@@ -122,7 +143,8 @@ fn read_verb<'a>(verb: &str, names: &'a [String]) -> Option<Command<'a>>
 
 /// The command that the words spell; `None` exactly where they spell none.
 pub fn read_words(words: &[String]) -> Option<Command<'_>>
-    ensures { option_map command_of result ≡ read_words (texts words.now) }
+    ensures command { option_map command_of result ≡ read_words (texts words.now) }
+    ensures image { IfSome result NamesImage }
 {
     let (verb, names) = words.split_first()?;
     if are_names(names) {

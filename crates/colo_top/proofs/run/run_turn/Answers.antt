@@ -13,7 +13,7 @@ pub returns-in-Ok-append_to-clause-logged : goal.returns-in-Ok-append_to-clause-
 returns-in-Ok-append_to-clause-logged g c =
     let P : List ℕ → Type 0 = λ text. Appends (g.S.Shelf.state c.args.shelf.now)
     (g.S.Shelf.state c.append_to.new.shelf) c.args.out.now Log text in
-    subst P (c.deref.ensures.value ∙ c.in-Ok.ensures) c.in-Ok-append_to.ensures.ok
+    subst P (c.deref.ensures.value ∙ c.in-Ok-idle_text.ensures) c.in-Ok-append_to.ensures.ok
 
 pub returns-in-Ok-append_to-clause-change : goal.returns-in-Ok-append_to-clause-change
 returns-in-Ok-append_to-clause-change g c = writes_one c.args.out.now replay_outputs
@@ -32,4 +32,4 @@ returns-clause-fails g c =
     (g.S.Shelf.state c.append_to.new.shelf) c.args.out.now Log text in
     subst P (sym c.write_fault.ensures)
     (turn_fails (g.S.Shelf.state c.args.shelf.now)
-    (g.S.Shelf.state c.append_to.new.shelf) c.args.out.now c.args.machine.now c.turn.new.self c.args.turn.now c.in-Err-append_to.fault c.in_default.ensures.ok (subst Q (c.deref.ensures.value ∙ c.in-Ok.ensures) c.in-Err-append_to.ensures.err) (λ e. c.in-Err-append_to.ensures.cause (ap Err e)))
+    (g.S.Shelf.state c.append_to.new.shelf) c.args.out.now c.args.machine.now c.turn.new.self c.args.turn.now c.in-Err.fault c.in-Ok.ensures.ok (subst Q (c.deref.ensures.value ∙ c.in-Ok-idle_text.ensures) c.in-Err.ensures.err) (λ e. c.in-Err.ensures.cause (ap Err e)))

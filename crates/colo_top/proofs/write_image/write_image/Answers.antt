@@ -1,66 +1,52 @@
--- The file is created, and the image appended.
-use Rattle.std.proofs.Common.{ℕ, ◌++◌, ◌∷◌, [], List, codes, decimal, lit<, refl, sym, ◌∙◌, subst, ap, Err}
+-- The file is the image.
+use Rattle.std.proofs.Common.{List, ℕ, ◌∙◌, ap, subst}
 use Rattle.std.proofs.lemmas.Result.{err_from_is_err_and}
-use Rattle.shared_definitions.specs.Ascii.{newline}
-use Rattle.colo_top.specs.declared.fault.Fault.{Fault}
-use Rattle.colo_top.specs.declared.output.Output.TheVariants.{Image}
-use Rattle.colo_top.specs.Command.{image_of, image_outputs}
-use Rattle.colo_top.specs.Files.{Appends, AppendsPart}
-use Rattle.colo_top.specs.Outcome.{FailsBy}
-use Rattle.colo_top.specs.Words.{image_command}
-use Rattle.colo_top.proofs.FileLemmas.{writes_one}
-use Rattle.colo_top.proofs.ImageLemmas.{image_size}
-use Rattle.colo_top.proofs.ReplayLemmas.{append_fails, image_line_fails, image_done}
+use Rattle.colo_top.specs.Command.{image_of}
+use Rattle.colo_top.specs.OneFile.{FileFails, HasOneFile}
+use Rattle.colo_top.specs.Outcome.{HasImage, bytes_line}
+use Rattle.colo_top.proofs.ReplayLemmas.{image_done, image_fails, image_line_fails}
 use Rattle.colo_top.proofs.write_image.write_image.Goals as goal
 
-pub returns-in-Err-append_to-clause-fails : goal.returns-in-Err-append_to-clause-fails
-returns-in-Err-append_to-clause-fails g c =
+pub returns-in_err-write_file-clause-fails : goal.returns-in_err-write_file-clause-fails
+returns-in_err-write_file-clause-fails g c =
+    let p = err_from_is_err_and c.from_residual-in_err-write_file.result c.from_residual-in_err-write_file.ensures.1 in
+    let w = image_of c.args.words.now in
     let old = g.S.Shelf.state c.args.shelf.now in
-    let made = g.S.Shelf.state c.create_all.new.shelf in
-    let new = g.S.Shelf.state c.append_to.new.shelf in
-    let out = c.args.words.now.out.now in
-    let Fails : Fault → Type 0 = λ f. FailsBy (image_command (image_of c.args.words.now)) old new f in
-    let P : List ℕ → Type 0 = λ bytes. AppendsPart made new out Image bytes in
-    subst Fails (sym c.write_fault-in-Err-append_to.ensures)
-    (append_fails (image_of c.args.words.now) old made new c.create_all.ensures.change c.in_default.ensures.ok
-    (writes_one out image_outputs made new Image (
-      0,
-      lit< tt,
-      refl,
-    ) c.append_to.ensures.only c.append_to.ensures.fetches)
-    c.in-Err-append_to.fault (subst P c.image-bytes.ensures.bytes c.in-Err-append_to.ensures.err)
-    (λ e. c.in-Err-append_to.ensures.cause (ap Err e)))
+    let new = g.S.Shelf.state c.write_file.new.shelf in
+    let from : HasImage w = record {
+      bytes = c.in_ok-bytes.bytes.items;
+      named = c.in_ok-bytes.ensures.named;
+      boots = c.in_ok-bytes.ensures.boots;
+    } in
+    let fault = c.in_err-write_file.field-0.0 in
+    let Fails : List ℕ → Type 0 = λ bytes. FileFails old new w.out bytes fault in
+    rw (p.1, p.2) (image_fails w from old new c.write_file.ensures.change fault
+    (subst Fails c.deref.ensures.value c.in_err-write_file.ensures.fails))
 
 pub returns-in_err-line-clause-fails : goal.returns-in_err-line-clause-fails
 returns-in_err-line-clause-fails g c =
-    let p = err_from_is_err_and c.from_residual.result c.from_residual.ensures.1 in
-    let old = g.S.Shelf.state c.args.shelf.now in
-    let made = g.S.Shelf.state c.create_all.new.shelf in
-    let new = g.S.Shelf.state c.append_to.new.shelf in
-    let out = c.args.words.now.out.now in
-    let P : List ℕ → Type 0 = λ bytes. Appends made new out Image bytes in
-    rw (p.1, p.2)
-    (image_line_fails (image_of c.args.words.now) old made new c.create_all.ensures.change c.in_default.ensures.ok
-    (writes_one out image_outputs made new Image (
-      0,
-      lit< tt,
-      refl,
-    ) c.append_to.ensures.only c.append_to.ensures.fetches)
-    (subst P c.image-bytes.ensures.bytes c.in_default-append_to.ensures.ok))
+    let p = err_from_is_err_and c.from_residual-in_err-line.result c.from_residual-in_err-line.ensures.1 in
+    let w = image_of c.args.words.now in
+    let new = g.S.Shelf.state c.write_file.new.shelf in
+    let from : HasImage w = record {
+      bytes = c.in_ok-bytes.bytes.items;
+      named = c.in_ok-bytes.ensures.named;
+      boots = c.in_ok-bytes.ensures.boots;
+    } in
+    let Written : List ℕ → Type 0 = λ bytes. HasOneFile new w.out bytes in
+    rw (p.1, p.2) (image_line_fails w from (g.S.Shelf.state c.args.shelf.now) new c.write_file.ensures.change
+    (subst Written c.deref.ensures.value c.in_ok-write_file.ensures.ok))
 
 pub returns-clause-done : goal.returns-clause-done
 returns-clause-done g c =
-    let old = g.S.Shelf.state c.args.shelf.now in
-    let made = g.S.Shelf.state c.create_all.new.shelf in
-    let new = g.S.Shelf.state c.append_to.new.shelf in
-    let out = c.args.words.now.out.now in
-    let P : List ℕ → Type 0 = λ bytes. Appends made new out Image bytes in
-    let Said : ℕ → List ℕ = λ n. codes "bytes " ++ (decimal n ++ (newline ∷ [])) in
-    image_done (image_of c.args.words.now) old made new c.create_all.ensures.change c.in_default.ensures.ok
-    (writes_one out image_outputs made new Image (
-      0,
-      lit< tt,
-      refl,
-    ) c.append_to.ensures.only c.append_to.ensures.fetches)
-    _ (c.in_ok-line.ensures ∙ ap Said (sym (image_size c.args.words.now.demo))) c.image-bytes.ensures.boots
-    (subst P c.image-bytes.ensures.bytes c.in_default-append_to.ensures.ok) c.in_default.ensures.counts c.in_default-append_to.ensures.counts
+    let w = image_of c.args.words.now in
+    let new = g.S.Shelf.state c.write_file.new.shelf in
+    let from : HasImage w = record {
+      bytes = c.in_ok-bytes.bytes.items;
+      named = c.in_ok-bytes.ensures.named;
+      boots = c.in_ok-bytes.ensures.boots;
+    } in
+    let Written : List ℕ → Type 0 = λ bytes. HasOneFile new w.out bytes in
+    image_done w from (g.S.Shelf.state c.args.shelf.now) new c.write_file.ensures.change _
+    (c.in_ok-line.ensures ∙ ap bytes_line c.deref-2.ensures.value)
+    (subst Written c.deref.ensures.value c.in_ok-write_file.ensures.ok) c.in_ok-write_file.ensures.counts
