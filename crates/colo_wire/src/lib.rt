@@ -1,0 +1,28 @@
+//! The messages between the two nodes of a pair: fourteen kinds, read exactly and written in their
+//! one spelling, and what a node answers to its calls.
+//!
+//! A message is its kind in one byte, the length of its body in four, and the body; numbers are
+//! big-endian. What stands in the body of each kind is a row of a table.
+#![tactic(auto)]
+
+mod answers;
+mod contents;
+mod faults;
+mod forms;
+mod kinds;
+mod lengths;
+mod making;
+mod messages;
+mod places;
+mod reading;
+mod writing;
+
+pub use answers::{Gate, HearFault, Told, Turned};
+pub use contents::Contents;
+pub use faults::WireFault;
+pub use messages::Message;
+pub use reading::decode;
+pub use writing::encode;
+
+#[cfg(test)]
+mod tests;
