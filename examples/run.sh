@@ -43,6 +43,9 @@ printf 'x p\nx s\n' > out/stops
 ends 4 "line 2" replay out/mute.elf out/disk out/client out/stops out/run
 ends 2 "image: 1" replay out/turns out/disk out/client out/turns out/run
 ends 0 "lines 2 released 0 captured 0" replay out/mute.elf out/disk out/client out/turns out/run
+"$colo" replay out/mute.elf out/disk out/client out/turns out/small --ram 1 > out/printed
+[ "$(wc -c < out/small.ram)" -eq 1048576 ] || { echo "--ram 1 left another size" >&2; exit 1; }
+ends 1 usage replay out/mute.elf out/disk out/client out/turns out/run --ram 65
 ends 0 "turns 2" splice out/run.log out/run.single
 printf 'T 10 - 0 5\nT 20 - 0 7\n' | cmp - out/run.single
 ends 7 "write failed" image mute missing/mute.elf
@@ -75,10 +78,5 @@ python3 check.py out/run.ram
 build out/devices.elf devices.c
 head -c 2048 /dev/zero > out/disk
 for _ in $(seq 200); do echo "P 250 1 4 2000"; done > out/schedule
-status=0
-"$colo" replay out/devices.elf out/disk out/client out/schedule out/devices || status=$?
-if [ "$status" -eq 9 ]; then
-    echo "skipped: the program that drives both devices, since this colo has none"
-else
-    python3 check_devices.py out/devices.disk
-fi
+"$colo" replay out/devices.elf out/disk out/client out/schedule out/devices
+python3 check_devices.py out/devices.disk

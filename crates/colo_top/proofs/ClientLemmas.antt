@@ -1,8 +1,9 @@
 -- A client stream that was fed whole.
-use Rattle.std.proofs.Common.{◌≡◌, ◌≢◌, ℕ, true, List, [], ◌∷◌, length, Some, refl, sym, ap, ◌∙◌, subst}
+use Rattle.std.proofs.Common.{◌≡◌, ◌≢◌, ℕ, ◌+◌, ◌-◌, true, false, List, [], ◌∷◌, ◌++◌, length, Option, Some, None, inl, inr, refl, sym, ap, ◌∙◌, subst, arith}
+use Rattle.std.proofs.lemmas.List.{append-nil}
 use Rattle.sock_link.specs.Stream.{is_too_long, stream_of, IsSplit}
 use Rattle.sock_link.specs.Unframed.{Unframed, nothing_fed, Feeds, Stands}
-use Rattle.sock_link.proofs.HistoryLemmas.{feeds_stand, begins_stream, tells_boundary}
+use Rattle.sock_link.proofs.HistoryLemmas.{feeds_stand, begins_stream, tells_boundary, tells_too_long}
 use Rattle.colo_top.specs.declared.fault.Refusal.TheVariants.{BadClient}
 use Rattle.colo_top.specs.Tests.{rest_fault, TestClient}
 

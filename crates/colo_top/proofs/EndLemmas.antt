@@ -1,5 +1,5 @@
 -- From how a command ends to what is promised of the call.
-use Rattle.std.proofs.Common.{◌≡◌, ℕ, List, Option, Some, None, IsTrue, ◌⊎◌, inl, inr, refl, sym, ap, ◌∙◌, subst}
+use Rattle.std.proofs.Common.{◌≡◌, ℕ, List, [], ◌∷◌, ◌++◌, Option, Some, None, IsTrue, ◌⊎◌, inl, inr, refl, sym, ap, ◌∙◌, subst}
 use Rattle.colo_base.specs.Count.{Increased}
 use Rattle.colo_base.specs.Shelf.{ShelfState, ChangesOnly}
 use Rattle.colo_base.specs.Sink.{Puts, PutsPart, SinkGoesOn}
@@ -8,40 +8,18 @@ use Rattle.colo_top.specs.declared.fault.Fault.{Fault}
 use Rattle.colo_top.specs.declared.fault.Fault.TheVariants.{Usage, Refused, Read, Write, NoMemory}
 use Rattle.colo_top.specs.declared.fault.Refusal.{Refusal}
 use Rattle.colo_top.specs.declared.fault.Refusal.TheVariants.{BadImage, BadDisk, BadLine, BadClient, NotBuilt}
-use Rattle.colo_top.specs.Boot.{boot_state}
 use Rattle.colo_top.specs.Command.{out_of, outputs_of, reads}
 use Rattle.colo_top.specs.Files.{IsFileOf, KeepsFiles, WritesOnly}
-use Rattle.colo_top.specs.Machine.{State}
-use Rattle.colo_top.specs.Outcome.{IsDone, IsCutOff, Judges, Stops, IsUntouched, FailsBy, Fails, Succeeds}
+use Rattle.colo_top.specs.Outcome.{IsDone, IsCutOff, Judges, Stops, WrittenAtStop, IsUntouched, FailsTests, FailsInRun, FailsBy, Fails, Succeeds}
 use Rattle.colo_top.specs.Reading.{IsMissing, Texts}
-use Rattle.colo_top.specs.Replay.{IsReady, Prepared}
-use Rattle.colo_top.specs.Run.{run_from}
+use Rattle.colo_top.specs.Replay.{Prepared, Start}
 use Rattle.colo_top.specs.Status.{status, line, refusal_status, refusal_line}
-use Rattle.colo_top.specs.Tests.{TestRun, TestSchedule, TestLog}
+use Rattle.colo_top.specs.Tests.{Finds, TestRun, TestSchedule, TestLog}
 use Rattle.colo_top.specs.Top.{Call, Prints, Means, EndsBy, Gives, OnMissing, OnRefusal, OnStop, OnCompletion, NothingAgainst, IsWritten, Ends}
 use Rattle.colo_top.specs.Words.{Command, replay_command, splice_command, image_command, RunWords, read_words}
-use Rattle.colo_top.proofs.BootLemmas.{no_case_at_boot}
-use Rattle.colo_top.proofs.RunLemmas.{run_of_log}
-use Rattle.colo_top.proofs.SameLemmas.{same_file, same_texts, same_schedule}
-use Rattle.colo_top.proofs.TestLemmas.{One, some_none, one_refusal, one_schedule_test, one_log_test, one_run, image_none, disk_none, client_none, schedule_none}
-
--- ---- what is prepared is one run
-
-same_state : (o : Option State) (s t : State) → o ≡ Some s → o ≡ Some t → s ≡ t
-same_state o s t p q = cc
-
-no_state : (o : Option State) (s : State) → o ≡ None → o ≡ Some s → ⊥
-no_state o s p q = cc
-
-prepared_run : (c : RunWords) (s : ShelfState) → IsTrue s.observable → (p q : Prepared c s)
-    → run_from p.boot p.turns ≡ run_from q.boot q.turns
-prepared_run c s seen p q =
-    let P : Texts → Type 0 = λ texts. IsReady c.mib texts p.turns p.boot in
-    let ready : P q.texts = subst P (same_texts s c p.texts q.texts seen p.read q.read) p.ready in
-    ap (λ boot. run_from boot p.turns) (same_state
-    (boot_state c.mib q.texts.image q.texts.disk) p.boot q.boot ready.booted q.ready.booted)
-    ∙ ap (λ turns. run_from q.boot turns)
-    (same_schedule q.texts.lines p.turns q.turns ready.schedule q.ready.schedule)
+use Rattle.colo_top.proofs.BootLemmas.{start_none}
+use Rattle.colo_top.proofs.SameLemmas.{same_file, same_texts}
+use Rattle.colo_top.proofs.TestLemmas.{One, some_none, one_refusal, one_schedule_test, one_log_test, one_run, schedule_none}
 
 -- ---- one judgement
 
@@ -77,20 +55,15 @@ one_judgement (image_command c) s seen a b p q = p ∙ sym q
 
 -- ---- what was prepared, done or cut off passed the tests
 
+start_judged : (c : RunWords) (s : ShelfState) (lines : Finds) → (start : Start c s) → lines None
+    → TestRun c.mib lines start.texts None
+start_judged c s lines start none =
+    inr (start_none c.mib start.texts start.machine start.frames start.ready, none)
+
 prepared_judged : (c : RunWords) (s : ShelfState) → Prepared c s → Judges (replay_command c) s None
 prepared_judged c s p =
-    let t = p.texts in
-    let ready = p.ready in (
-      t,
-      p.read,
-      inr (
-        image_none c.mib t.image (no_case_at_boot c.mib t.image t.disk p.boot ready.booted),
-        inr (
-          disk_none t.disk ready.disk,
-          inr (client_none t.client ready.frames ready.client, schedule_none t.lines p.turns ready.schedule),
-        ),
-      ),
-    )
+    let t = p.start.texts in
+    (t, p.start.read, start_judged c s (TestSchedule t.lines) p.start (schedule_none t.lines p.turns p.schedule))
 
 done_judged : (command : Command) (old new : ShelfState) (text : List ℕ) → IsDone command old new text
     → Judges command old None
@@ -106,25 +79,20 @@ cut_judged (splice_command c) old new work =
 cut_judged (image_command c) old new work = refl
 
 stop_judged : (command : Command) (s : ShelfState) (refusal : Refusal) → Stops command s refusal → Judges command s None
-stop_judged (replay_command c) s refusal stop = prepared_judged c s stop.1.prepared
+stop_judged (replay_command c) s refusal stop = absurd stop
 stop_judged (splice_command c) s refusal stop = absurd stop
 stop_judged (image_command c) s refusal stop = absurd stop
 
 -- ---- what stops a run
 
 one_stop : (command : Command) (s : ShelfState) (a b : Refusal) → Stops command s a → Stops command s b → a ≡ b
-one_stop (replay_command c) s a b p q = p.0 ∙ sym q.0
+one_stop (replay_command c) s a b p q = absurd p
 one_stop (splice_command c) s a b p q = absurd p
 one_stop (image_command c) s a b p q = absurd p
 
 done_stop : (command : Command) (old new : ShelfState) (text : List ℕ) (refusal : Refusal) → IsTrue old.observable
     → IsDone command old new text → Stops command old refusal → ⊥
-done_stop (replay_command c) old new text refusal seen work (same, stop) =
-    let progress = work.run.progress in
-    no_state (run_from stop.prepared.boot stop.prepared.turns) progress.last stop.stopped
-    (prepared_run c old seen stop.prepared work.prepared
-    ∙ (ap (λ turns. run_from work.prepared.boot turns) (sym
-    (run_of_log work.prepared.turns progress.log progress.logged)) ∙ progress.ran))
+done_stop (replay_command c) old new text refusal seen work stop = stop
 done_stop (splice_command c) old new text refusal seen work stop = stop
 done_stop (image_command c) old new text refusal seen work stop = stop
 

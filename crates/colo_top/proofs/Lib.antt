@@ -1,12 +1,12 @@
-pub mod BoardLemmas
-pub mod StepLemmas
-pub mod BootLemmas
 pub mod LogLemmas
-pub mod WordLemmas
 pub mod SinkLemmas
 pub mod TestLemmas
 pub mod ClientLemmas
 pub mod SameLemmas
+pub mod BootLemmas
+pub mod SingleLemmas
+pub mod LimitLemmas
+pub mod PartLemmas
 pub mod FileLemmas
 pub mod RunLemmas
 pub mod ReplayLemmas

@@ -2,8 +2,9 @@
 use Rattle.std.proofs.Common.{◌≡◌, ◌<◌, ◌^◌, List, [], ◌∷◌, decimal, min, length, sum_by, ◌-◌, refl, arith, lit<}
 use Rattle.std.proofs.lemmas.List.{length-map}
 use Rattle.std.proofs.lemmas.Fmt.{decimal_digit}
+use Rattle.splice_run.specs.Log.{released_count}
 use Rattle.colo_top.specs.declared.schedule.Turn.{Turn}
-use Rattle.colo_top.specs.Log.{summary_text, released_by, is_capture}
+use Rattle.colo_top.specs.Log.{summary_text, is_capture}
 use Rattle.colo_top.specs.Idle.{idle_event, idle_events, summary_words}
 
 zero_text : decimal 0 ≡ 48 ∷ []
@@ -13,7 +14,7 @@ length_idle : (turns : List Turn) → length (idle_events turns) ≡ length turn
 unfolding idle_events
 length_idle turns = length-map turns idle_event
 
-idle_released : (turns : List Turn) → sum_by (λ e. released_by e.answer) (idle_events turns) ≡ 0
+idle_released : (turns : List Turn) → sum_by (λ e. released_count e.answer) (idle_events turns) ≡ 0
 unfolding idle_events idle_event
 idle_released [] = refl
 idle_released (t ∷ ts) = idle_released ts

@@ -1,6 +1,5 @@
 -- From the parts of a command to the whole of it.
 use Rattle.std.proofs.Common.{◌≡◌, ℕ, List, [], ◌∷◌, ◌++◌, Some, None, ◌⊎◌, inl, inr, lit<, refl, sym, ap, ◌∙◌, fold, Result, Ok, Err, IfOk, IfErr, OnOk, String, string_bytes, IsTrue}
-use Rattle.std.proofs.lemmas.List.Sums.{fold-append}
 use Rattle.std.specs.declared.alloc.Global.{Global}
 use Rattle.colo_base.specs.Count.{Increased}
 use Rattle.colo_base.specs.Shelf.{ShelfState, NoFetchFailed, NoWriteFailed}
@@ -10,6 +9,7 @@ use Rattle.colo_base.proofs.StateLemmas.{changes_none, front_itself}
 use Rattle.replay_log.specs.Texts.{IsLog}
 use Rattle.replay_log.specs.declared.records.Record.{Record}
 use Rattle.splice_run.specs.Single.{single_run}
+use Rattle.state_wire.specs.Guest.{Meaning}
 use Rattle.colo_top.specs.declared.fault.Fault.{Fault}
 use Rattle.colo_top.specs.declared.fault.Fault.TheVariants.{Usage, Refused, Read, Write, NoMemory}
 use Rattle.colo_top.specs.declared.output.Output.{Output}
@@ -17,13 +17,12 @@ use Rattle.colo_top.specs.declared.output.Output.TheVariants.{Named}
 use Rattle.colo_top.specs.declared.schedule.Turn.{Turn}
 use Rattle.colo_top.specs.Command.{reads, replay_outputs, named_outputs}
 use Rattle.colo_top.specs.Files.{file_name, HasFile, HasFiles, KeepsFiles, KeepsOrEmpties, WriteFailed, WritesOnly, AppendsPart, empty_files}
-use Rattle.colo_top.specs.Machine.{State}
 use Rattle.colo_top.specs.OneFile.{FileCutOff, FileFails, HasFront, HasOneFile}
 use Rattle.colo_top.specs.Outcome.{Completes, FailsBy, HasImage, IsUntouched, bytes_line}
 use Rattle.colo_top.specs.Reading.{Texts, AreRead, FetchFailed}
-use Rattle.colo_top.specs.Replay.{IsReady, Prepared, RunDone, RunUnsupported, IsCutOff}
-use Rattle.colo_top.specs.Run.{run_from, next_state}
+use Rattle.colo_top.specs.Replay.{IsReady, Prepared, RunDone, IsCutOff}
 use Rattle.colo_top.specs.RunSteps.{FailsTest, PreparedFails}
+use Rattle.colo_top.specs.Schedule.{IsTurnSchedule}
 use Rattle.colo_top.specs.Splice.{HasLog, spliced_text, turns_line}
 use Rattle.colo_top.specs.Status.{read_fault, write_fault}
 use Rattle.colo_top.specs.Tests.{TestLog, TestRun, TestSchedule}
@@ -43,21 +42,6 @@ kept_from out old mid new kept (o ∷ os) each =
         ⊎ (new.contents (file_name out o) ≡ Some [])
     at seen (inl same) = inl (same ∙ kept.others seen (file_name out o) (λ none. none))
     at seen (inr empty) = inr empty
-
--- ---- a run that has no last state
-
-none_after : (turns : List Turn) → fold next_state None turns ≡ None
-none_after [] = refl
-none_after (t ∷ ts) = none_after ts
-
--- a run that comes to a step that isn't built has no last state
-stopped_all : (boot : State) (front back : List Turn) (turn : Turn) → run_from boot (front ++ (turn ∷ [])) ≡ None
-    → run_from boot (front ++ (turn ∷ back)) ≡ None
-unfolding run_from
-stopped_all boot front back turn e =
-    fold-append next_state (Some boot) front (turn ∷ back)
-    ∙ (ap (λ s. fold next_state s back) (sym (fold-append next_state (Some boot) front (turn ∷ [])) ∙ e)
-    ∙ none_after back)
 
 -- ---- a replay
 
@@ -82,47 +66,41 @@ module _ (c : RunWords) (old mid : ShelfState) (texts : Texts) (read : AreRead o
   refused Write why = absurd why
   refused NoMemory why = record { files = inl kept }
 
-  module _ (turns : List Turn) (boot : State) (ready : IsReady c.mib texts turns boot) (new : ShelfState)
+  module _ (machine : Meaning) (frames : List (List ℕ)) (ready : IsReady c.mib texts machine frames)
+      (turns : List Turn) (schedule : IsTurnSchedule turns texts.lines) (new : ShelfState)
       (change : WritesOnly c.out replay_outputs mid new) where
     abbrev prepared : Prepared c old
-    prepared = record { texts = texts; read = read; turns = turns; boot = boot; ready = ready }
+    prepared = record {
+      start = record { texts = texts; read = read; machine = machine; frames = frames; ready = ready };
+      turns = turns;
+      schedule = schedule;
+    }
 
     all_changes : WritesOnly c.out replay_outputs old new
     all_changes = writes_after c.out replay_outputs old mid new kept fetches change
 
-    cut_off : IsCutOff mid new c.out boot turns → IsCutOff old new c.out boot turns
+    cut_off : IsCutOff mid new c.out machine frames turns → IsCutOff old new c.out machine frames turns
     cut_off (inl created) = inl (kept_from c.out old mid new kept replay_outputs created)
     cut_off (inr cut) = inr cut
 
-    all_stopped : RunUnsupported new c.out boot turns → run_from boot turns ≡ None
-    all_stopped run = ap (λ ts. run_from boot ts) run.split ∙ stopped_all boot run.front run.back run.turn run.stopped
-
-    run_failed : (fault : Fault) → PreparedFails mid new c.out boot turns fault
+    run_failed : (fault : Fault) → PreparedFails mid new c.out machine frames turns fault
         → FailsBy (replay_command c) old new fault
     run_failed Usage fails = fails
+    run_failed (Refused refusal) fails = absurd fails
     run_failed Read fails = absurd fails
     run_failed Write fails =
         record {
           failed = failed_from c.out replay_outputs old mid new
               (writes_after c.out replay_outputs old mid mid kept fetches
               (writes_none c.out replay_outputs mid)) fails.0;
-          files = record {
-            prepared = prepared;
-            run = cut_off fails.1;
-          };
+          files = record { prepared = prepared; run = cut_off fails.1 };
           change = all_changes;
         }
     run_failed NoMemory fails =
         record { files = inr (record { prepared = prepared; run = cut_off fails }, all_changes) }
-    run_failed (Refused refusal) fails =
-        inr (record {
-          stop = (fails.1, record { prepared = prepared; stopped = all_stopped fails.0 });
-          files = record { prepared = prepared; run = fails.0 };
-          change = all_changes;
-        })
 
     pub replay_done : (r : Result (String Global) Fault)
-        → IfOk r (λ line. RunDone new c.out boot turns (string_bytes line)) → OnOk r (NoWriteFailed mid new)
+        → IfOk r (λ line. RunDone new c.out machine frames turns (string_bytes line)) → OnOk r (NoWriteFailed mid new)
         → IfOk r (λ line. Completes (replay_command c) old new (string_bytes line))
     replay_done (Ok line) run none = record {
       work = record { prepared = prepared; run = run };
@@ -131,7 +109,7 @@ module _ (c : RunWords) (old mid : ShelfState) (texts : Texts) (read : AreRead o
     }
     replay_done (Err fault) run none = tt
 
-    pub replay_fails : (r : Result (String Global) Fault) → IfErr r (PreparedFails mid new c.out boot turns)
+    pub replay_fails : (r : Result (String Global) Fault) → IfErr r (PreparedFails mid new c.out machine frames turns)
         → IfErr r (FailsBy (replay_command c) old new)
     replay_fails (Ok line) fails = tt
     replay_fails (Err fault) fails = run_failed fault fails

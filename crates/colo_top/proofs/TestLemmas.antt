@@ -1,10 +1,12 @@
 -- Each test finds one thing, and what refuses one of two tests in a row refuses both.
-use Rattle.std.proofs.Common.{◌≡◌, ℕ, true, List, [], Option, Some, None, IsSomeAnd, length, map, option_map, unwrap_or, inl, inr, refl, sym, ap, ◌∙◌}
+use Rattle.std.proofs.Common.{◌≡◌, ◌≢◌, ℕ, true, false, List, [], ◌∷◌, Option, Some, None, IsSomeAnd, length, map, option_map, unwrap_or, ◌⊎◌, inl, inr, refl, sym, ap, ◌∙◌, rules, if◌then◌else◌}
 use Rattle.disk_buffers.specs.Sectors.{is_length}
 use Rattle.elf_load.specs.Boot.{elf_case}
+use Rattle.guest_machine.specs.Boot.{ram_size}
 use Rattle.replay_log.specs.Cases.{BadLine as LineCase, first_bad}
 use Rattle.replay_log.specs.Forms.{log_forms, schedule_forms}
 use Rattle.replay_log.specs.Texts.{IsLog, IsSchedule, log_items}
+use Rattle.replay_log.specs.declared.forms.Form.{Form}
 use Rattle.replay_log.specs.declared.items.Item.TheVariants as item
 use Rattle.replay_log.specs.declared.lines.Line.{Line}
 use Rattle.replay_log.specs.declared.records.Record.{Record}
@@ -17,11 +19,10 @@ use Rattle.colo_top.specs.declared.fault.Fault.TheVariants.{Usage, Refused, Read
 use Rattle.colo_top.specs.declared.fault.Refusal.{Refusal}
 use Rattle.colo_top.specs.declared.fault.Refusal.TheVariants.{BadImage, BadLine, NotBuilt}
 use Rattle.colo_top.specs.declared.schedule.Turn.{Turn}
-use Rattle.colo_top.specs.Boot.{ram_size}
 use Rattle.colo_top.specs.Reading.{Texts}
 use Rattle.colo_top.specs.RunSteps.{FailsTest}
 use Rattle.colo_top.specs.Schedule.{IsTurnSchedule, line_of}
-use Rattle.colo_top.specs.Tests.{Finds, Then, TestImage, TestDisk, rest_fault, TestClient, FindsBadLine, TestSchedule, TestLog, TestRun}
+use Rattle.colo_top.specs.Tests.{Finds, Then, TestImage, TestDisk, rest_fault, TestClient, FindsBadLine, TestSchedule, TestLog, TestMachine, TestRun, TestStart}
 
 -- ---- one thing
 
@@ -92,9 +93,9 @@ one_log_test text a b (inr (log, good, ea)) (inr (more, fine, eb)) = ea ∙ sym 
 
 pub one_run : (mib : ℕ) (lines : Finds) (texts : Texts) → One lines → One (TestRun mib lines texts)
 one_run mib lines texts h =
-    then_one (TestImage mib texts.image) (Then (TestDisk texts.disk) (Then (TestClient texts.client) lines))
-    (one_image mib texts.image) (then_one (TestDisk texts.disk) (Then (TestClient texts.client) lines)
-    (one_disk texts.disk) (then_one (TestClient texts.client) lines (one_client texts.client) h))
+    then_one (TestStart mib texts) lines (then_one (TestMachine mib texts.image texts.disk) (TestClient texts.client)
+    (then_one (TestImage mib texts.image) (TestDisk texts.disk) (one_image mib texts.image) (one_disk texts.disk))
+    (one_client texts.client)) h
 
 -- ---- what refuses one refuses both
 

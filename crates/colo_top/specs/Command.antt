@@ -1,5 +1,5 @@
 -- A command of the program as the code holds it: what it names, reads and writes.
-use Rattle.std.specs.Prelude.{ℕ, Bool, false, IsSome, List, [], ◌∷◌}
+use Rattle.std.specs.Prelude.{ℕ, ◌≤◌, Bool, false, IsSome, List, [], ◌∷◌}
 use Rattle.colo_guests.specs.Images.{image}
 use Rattle.colo_top.specs.declared.words.Command.{Command as HeldCommand}
 use Rattle.colo_top.specs.declared.words.Command.TheVariants as held
@@ -8,7 +8,7 @@ use Rattle.colo_top.specs.declared.words.Splice.{Splice}
 use Rattle.colo_top.specs.declared.words.WriteImage.{WriteImage}
 use Rattle.colo_top.specs.declared.output.Output.{Output}
 use Rattle.colo_top.specs.declared.output.Output.TheVariants.{Log, Released, Wire, Ram, Disk, Named}
-use Rattle.colo_top.specs.Words.{RunWords, SpliceWords, ImageWords, Command, replay_command, splice_command, image_command, default_mib}
+use Rattle.colo_top.specs.Words.{RunWords, SpliceWords, ImageWords, Command, replay_command, splice_command, image_command}
 
 -- ---- what the code holds
 
@@ -20,7 +20,7 @@ run_of c =
       client = c.client.now;
       lines = c.lines.now;
       out = c.out.now;
-      mib = default_mib;
+      mib = c.mib;
     }
 
 abbrev pub splice_of : Splice → SpliceWords
@@ -34,11 +34,15 @@ command_of (held.Replay c) = replay_command (run_of c)
 command_of (held.Splice c) = splice_command (splice_of c)
 command_of (held.WriteImage c) = image_command (image_of c)
 
--- there is a demo image of the name that `image` is given
-abbrev pub NamesImage : HeldCommand → Type 0
-NamesImage (held.Replay c) = Unit {0}
-NamesImage (held.Splice c) = Unit {0}
-NamesImage (held.WriteImage c) = IsSome (image c.name.now)
+-- memory has 1 to 64 MiB
+abbrev pub HasRam : Run → Type 0
+HasRam c = (1 ≤ c.mib) × (c.mib ≤ 64)
+
+-- a run has memory of that size, and there is a demo image of the name that `image` is given
+abbrev pub IsWell : HeldCommand → Type 0
+IsWell (held.Replay c) = HasRam c
+IsWell (held.Splice c) = Unit {0}
+IsWell (held.WriteImage c) = IsSome (image c.name.now)
 
 -- ---- the files of a command
 

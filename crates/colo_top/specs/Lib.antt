@@ -1,10 +1,3 @@
-pub mod Memory
-pub mod Clint
-pub mod Board
-pub mod BoardLaws
-pub mod Devices
-pub mod Machine
-pub mod Boot
 pub mod Schedule
 pub mod Words
 pub mod Command
@@ -13,7 +6,7 @@ pub mod Idle
 pub mod Files
 pub mod Reading
 pub mod ReadBytes
-pub mod Run
+pub mod MachineRun
 pub mod RunSteps
 pub mod Status
 pub mod OneFile

@@ -1,38 +1,18 @@
 -- What the log of a run says.
 use Rattle.std.specs.Prelude.{◌≡◌, ℕ, ◌-◌, ◌^◌, min, List, [], ◌∷◌, ◌++◌, codes, decimal, map, flat_map, sum_by, length, All, None}
 use Rattle.replay_log.specs.Texts.{record_text}
-use Rattle.replay_log.specs.declared.lines.Line.{Line}
-use Rattle.replay_log.specs.declared.lines.Line.TheVariants.{Primary}
-use Rattle.replay_log.specs.declared.records.Answer.{Answer}
-use Rattle.replay_log.specs.declared.records.Answer.TheVariants.{Nothing, Made, Accepted, Arp, Dropped, Full, Lost, Heard, HeardBack, Zero, Reported}
+use Rattle.replay_log.specs.declared.records.Answer.TheVariants.{Made}
 use Rattle.replay_log.specs.declared.records.Mark.{Mark}
 use Rattle.replay_log.specs.declared.records.Mark.TheVariants.{Captured, Committed, Acknowledged}
 use Rattle.replay_log.specs.declared.records.Record.{Record}
 use Rattle.shared_definitions.specs.Ascii.{newline}
+use Rattle.splice_run.specs.Log.{released_count, schedule}
 use Rattle.colo_top.specs.declared.schedule.Turn.{Turn}
 use Rattle.colo_top.specs.Schedule.{line_of}
 
 -- the text of a log is that of its records, in order
 unfoldable pub log_text : List Record → List ℕ
 log_text records = flat_map record_text records
-
--- the schedule of a log is its lines without answers and marks
-abbrev pub schedule_of : List Record → List Line
-schedule_of records = map (λ r. r.line) records
-
--- how many frames an event released
-abbrev pub released_by : Answer → ℕ
-released_by Nothing = 0
-released_by (Made frame released) = released
-released_by (Accepted index seen trim released) = released
-released_by (Arp index) = 1
-released_by (Dropped index why) = 0
-released_by (Full index) = 0
-released_by (Lost index) = 0
-released_by (Heard kind full) = 0
-released_by (HeardBack kind sent released) = released
-released_by Zero = 0
-released_by (Reported released) = released
 
 -- how many checkpoints a mark begins
 abbrev pub is_capture : Mark → ℕ
@@ -45,7 +25,7 @@ is_capture (Acknowledged e) = 0
 unfoldable pub summary_text : List Record → List ℕ
 summary_text records =
     codes "lines " ++ (decimal (min (length records) (2 ^ 64 - 1))
-    ++ (codes " released " ++ (decimal (min (sum_by (λ r. released_by r.answer) records) (2 ^ 64 - 1))
+    ++ (codes " released " ++ (decimal (min (sum_by (λ r. released_count r.answer) records) (2 ^ 64 - 1))
     ++ (codes " captured " ++ (decimal (min (sum_by (λ r. sum_by is_capture r.marks) records) (2 ^ 64 - 1)) ++ (newline ∷ []))))))
 
 -- A turn of a primary that hears nothing and has no frame waiting: it takes no frame, releases
@@ -56,17 +36,5 @@ pub record IsIdle (r : Record) : Type 0 where
 
 -- the log of a schedule of such turns
 pub record IsLog (turns : List Turn) (records : List Record) : Type 0 where
-  pub schedule : schedule_of records ≡ map line_of turns
+  pub lines : schedule records ≡ map line_of turns
   pub answers : All IsIdle records
-
--- ---- the single run that a log names
-
--- the turn of a primary that was made
-abbrev pub made_turn : Line → Answer → List Turn
-made_turn (Primary d i b n) (Made frame released) =
-    record { ticks = d; receives = i; requests = b; steps = n } ∷ []
-made_turn _ _ = []
-
--- where no primary stops: the turns of the primary that were made
-unfoldable pub single_run : List Record → List Turn
-single_run records = flat_map (λ r. made_turn r.line r.answer) records

@@ -7,12 +7,11 @@ use Rattle.shared_definitions.specs.Ascii.{newline}
 use Rattle.colo_top.specs.declared.fault.Fault.{Fault}
 use Rattle.colo_top.specs.declared.fault.Fault.TheVariants.{Usage, Refused, Read, Write, NoMemory}
 use Rattle.colo_top.specs.declared.fault.Refusal.{Refusal}
-use Rattle.colo_top.specs.declared.fault.Refusal.TheVariants.{NotBuilt}
 use Rattle.colo_top.specs.Command.{reads, out_of, outputs_of}
 use Rattle.colo_top.specs.Files.{HasFile, KeepsFiles, WriteFailed, WritesOnly}
 use Rattle.colo_top.specs.OneFile.{FileCutOff, HasOneFile}
 use Rattle.colo_top.specs.Reading.{AreRead, FetchFailed, Texts}
-use Rattle.colo_top.specs.Replay.{ReplayDone, ReplayCutOff, ReplayUnsupported, HasUnsupportedStep}
+use Rattle.colo_top.specs.Replay.{ReplayDone, ReplayCutOff}
 use Rattle.colo_top.specs.Splice.{SpliceDone, SpliceCutOff}
 use Rattle.colo_top.specs.Tests.{TestLog, TestRun, TestSchedule}
 use Rattle.colo_top.specs.Words.{Command, replay_command, splice_command, image_command, ImageWords, read_words}
@@ -54,15 +53,15 @@ Judges (splice_command c) shelf found =
     (text : List ℕ) × HasFile shelf c.log text × TestLog text found
 Judges (image_command c) shelf found = found ≡ None
 
--- its run comes to a place where this stops it: a step that isn't built
+-- its run comes to a place where this stops it
 abbrev pub Stops : Command → ShelfState → Refusal → Type 0
-Stops (replay_command c) shelf refusal = (refusal ≡ NotBuilt) × HasUnsupportedStep c shelf
+Stops (replay_command c) shelf refusal = ⊥
 Stops (splice_command c) shelf refusal = ⊥
 Stops (image_command c) shelf refusal = ⊥
 
 -- what was written before such a stop
 abbrev pub WrittenAtStop : Command → ShelfState → ShelfState → Type 0
-WrittenAtStop (replay_command c) old new = ReplayUnsupported c old new
+WrittenAtStop (replay_command c) old new = ⊥
 WrittenAtStop (splice_command c) old new = ⊥
 WrittenAtStop (image_command c) old new = ⊥
 

@@ -2,6 +2,7 @@
 use Rattle.std.specs.Prelude.{◌≡◌, ◌≢◌, ℕ, List, [], ◌∷◌, Option, Some, None, IsSomeAnd, length, map, option_map, if◌then◌else◌, ◌⊎◌}
 use Rattle.disk_buffers.specs.Sectors.{is_length}
 use Rattle.elf_load.specs.Boot.{elf_case}
+use Rattle.guest_machine.specs.Boot.{ram_size}
 use Rattle.replay_log.specs.Cases.{first_bad}
 use Rattle.replay_log.specs.Forms.{log_forms, schedule_forms}
 use Rattle.replay_log.specs.Texts.{IsLog, IsSchedule}
@@ -12,7 +13,6 @@ use Rattle.sock_link.specs.Stream.{IsSplit, stream_of}
 use Rattle.colo_top.specs.declared.fault.Refusal.{Refusal}
 use Rattle.colo_top.specs.declared.fault.Refusal.TheVariants.{BadImage, BadDisk, BadLine, BadClient, NotBuilt}
 use Rattle.colo_top.specs.declared.schedule.Turn.{Turn}
-use Rattle.colo_top.specs.Boot.{ram_size}
 use Rattle.colo_top.specs.Reading.{Texts}
 use Rattle.colo_top.specs.Schedule.{IsTurnSchedule, line_of}
 
@@ -63,8 +63,14 @@ abbrev pub TestLog : List ℕ → Finds
 TestLog text found =
     FindsBadLine log_forms text found ⊎ ((log : List Record) × IsLog log text × (found ≡ None))
 
--- what a run reads: the image, the disk, the client stream, and then its lines
+-- what a machine is made of: the image, and then the disk
+abbrev pub TestMachine : ℕ → List ℕ → List ℕ → Finds
+TestMachine mib image disk = Then (TestImage mib image) (TestDisk disk)
+
+-- what a run begins with: these, and the client stream
+abbrev pub TestStart : ℕ → Texts → Finds
+TestStart mib texts = Then (TestMachine mib texts.image texts.disk) (TestClient texts.client)
+
+-- what a run reads: these, and then its lines
 abbrev pub TestRun : ℕ → Finds → Texts → Finds
-TestRun mib lines texts =
-    Then (TestImage mib texts.image)
-    (Then (TestDisk texts.disk) (Then (TestClient texts.client) lines))
+TestRun mib lines texts = Then (TestStart mib texts) lines

@@ -1,18 +1,14 @@
 //! The top call of the pair: commands, their files and their statuses.
 #![tactic(auto)]
 
-mod board;
 mod client;
-mod clint;
-mod devices;
 mod fault;
 mod input;
 mod log;
-mod machine;
 mod one_file;
 mod output;
+mod parts;
 mod prepare;
-mod ram;
 mod run;
 mod schedule;
 mod splice;

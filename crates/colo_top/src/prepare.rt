@@ -1,75 +1,82 @@
 //! What a run is made of, from the files that it reads.
 
-ghost use Rattle.std.specs.Prelude.{◌≡◌, ◌≤◌, [], Some, None, true, length, IfOk, IfErr, OnOk};
-ghost use Rattle.disk_buffers.specs.Sectors.{is_length};
+ghost use Rattle.std.specs.Prelude.{◌≡◌, ◌≤◌, None, IfOk, IfErr, OnOk};
 ghost use Rattle.elf_load.specs.Boot.{elf_case};
-ghost use Rattle.colo_top.specs.Boot.{boot_state, ram_size};
+ghost use Rattle.guest_machine.specs.Boot.{ram_size};
+ghost use Rattle.guest_machine.specs.Guest.{machine_meaning};
+ghost use Rattle.colo_top.specs.MachineRun.{IsBooted};
 ghost use Rattle.colo_top.specs.ReadBytes.{texts_of};
 ghost use Rattle.colo_top.specs.Replay.{IsReady};
 ghost use Rattle.colo_top.specs.RunSteps.{FailsTest};
-ghost use Rattle.colo_top.specs.Tests.{TestDisk, TestImage, TestRun, TestSchedule};
+ghost use Rattle.colo_top.specs.Tests.{TestImage, TestMachine, TestStart};
 
 use crate::client::read_client;
 use crate::fault::{Fault, Refusal};
 use crate::input::Inputs;
-use crate::machine::{BootFault, Machine};
-use crate::schedule::{Turn, read_schedule};
+use colo_base::Frames;
+use disk_buffers::{DiskFault, WholeDisk};
+use elf_load::load;
+use guest_machine::{BootFault, Machine};
 use std::alloc::Global;
 
-/// A machine that stands at the image's boot state, and the turns that it is to run.
+/// The bytes of a MiB.
+const MIB: usize = 1024 * 1024;
+
+/// A machine that stands at the image's boot state, and the client's frames.
 #[derive(Drop)]
-pub struct Ready {
-    pub machine: Machine,
-    pub turns: Vec<Turn>,
+pub struct Started {
+    pub machine: Machine<WholeDisk>,
+    pub frames: Frames,
 }
 
-/// The machine that the image boots.
-#[tactic(auto, using(crate::proofs::BootLemmas::no_case_at_boot))]
-fn boot(alloc: Global, mib: usize, image: &[u8], disk: Vec<u8>) -> Result<Machine, Fault>
+/// Tests an image by loading it.
+fn test_image(alloc: Global, mib: u32, image: &[u8]) -> Result<(), Fault>
     requires { mib ≤ 64 }
-    ensures booted { IfOk result (λ machine. boot_state mib image.now disk.items ≡ Some machine) }
-    ensures no_case { OnOk result (elf_case (ram_size mib) image.now ≡ None) }
+    ensures none { OnOk result (elf_case (ram_size mib) image.now ≡ None) }
     ensures refused { IfErr result (FailsTest (TestImage mib image.now)) }
 {
-    match Machine::boot(alloc, mib, image, disk) {
+    let Ok(mut memory) = vec![in alloc; 0u8; mib as usize * MIB] else {
+        return Err(Fault::NoMemory);
+    };
+    match load(image, &mut memory) {
+        Ok(_) => Ok(()),
+        Err(fault) => Err(Fault::Refused(Refusal::BadImage(fault.number))),
+    }
+}
+
+/// The machine that the image boots with a disk. The image is tested first.
+fn boot(alloc: Global, mib: u32, image: &[u8], disk: &[u8]) -> Result<Machine<WholeDisk>, Fault>
+    requires least { 1 ≤ mib }
+    requires most { mib ≤ 64 }
+    ensures booted { IfOk result (λ machine.
+        IsBooted mib image.now disk.now (machine_meaning machine)) }
+    ensures refused { IfErr result (FailsTest (TestMachine mib image.now disk.now)) }
+{
+    let whole = match WholeDisk::new(alloc, disk) {
+        Ok(whole) => whole,
+        Err(DiskFault::NoMemory) => return Err(Fault::NoMemory),
+        Err(DiskFault::Length) => {
+            test_image(alloc, mib, image)?;
+            return Err(Fault::Refused(Refusal::BadDisk(disk.len() as u64)));
+        }
+    };
+    match Machine::boot(alloc, image, whole, mib) {
         Ok(machine) => Ok(machine),
         Err(BootFault::Elf(fault)) => Err(Fault::Refused(Refusal::BadImage(fault.number))),
         Err(BootFault::NoMemory) => Err(Fault::NoMemory),
     }
 }
 
-/// Tests the disk's length.
-fn test_disk(bytes: &[u8]) -> Result<(), Fault>
-    ensures ok { OnOk result (is_length (length bytes.now) ≡ true) }
-    ensures refused { IfErr result (FailsTest (TestDisk bytes.now)) }
+/// What the files make a run begin with. They are tested in this order: the image, the disk, the
+/// client stream.
+pub fn start(alloc: Global, mib: u32, inputs: &Inputs) -> Result<Started, Fault>
+    requires least { 1 ≤ mib }
+    requires most { mib ≤ 64 }
+    ensures ready { IfOk result (λ started. IsReady mib
+        (texts_of inputs.now) (machine_meaning started.machine) started.frames) }
+    ensures refused { IfErr result (FailsTest (TestStart mib (texts_of inputs.now))) }
 {
-    let length = bytes.len();
-    if length > 0 && length % 512 == 0 && length <= 16_777_216 {
-        Ok(())
-    } else {
-        Err(Fault::Refused(Refusal::BadDisk(length as u64)))
-    }
-}
-
-/// What the files make a replay run. They are tested in this order: the image, the disk, the client
-/// stream, the schedule.
-pub fn prepare(alloc: Global, mib: usize, inputs: Inputs) -> Result<Ready, Fault>
-    requires { mib ≤ 64 }
-    ensures ready { IfOk result (λ ready. IsReady mib
-        (texts_of inputs) ready.turns.items ready.machine) }
-    ensures refused { IfErr result (FailsTest (TestRun mib
-        (TestSchedule inputs.lines.items) (texts_of inputs))) }
-{
-    let tested = test_disk(&inputs.disk);
-    let Inputs {
-        image,
-        disk,
-        client,
-        lines,
-    } = inputs;
-    let machine = boot(alloc, mib, &image, disk)?;
-    tested?;
-    read_client(alloc, &client)?;
-    let turns = read_schedule(alloc, &lines)?;
-    Ok(Ready { machine, turns })
+    let machine = boot(alloc, mib, &inputs.image, &inputs.disk)?;
+    let frames = read_client(alloc, &inputs.client)?;
+    Ok(Started { machine, frames })
 }

@@ -1,55 +1,66 @@
 //! `replay`: runs a schedule, and writes what the run leaves.
 
-ghost use Rattle.std.specs.Prelude.{◌≡◌, [], Some, IfOk, IfErr, OnOk, OnErr, IsErrOf, string_bytes};
+ghost use Rattle.std.specs.Prelude.{◌≡◌, ℕ, List, [], All, IfOk, IfErr, OnOk, OnErr, IsErrOf, string_bytes};
 ghost use Rattle.colo_base.specs.Shelf.{NoWriteFailed};
 ghost use Rattle.replay_log.specs.Texts.{record_text};
-ghost use Rattle.colo_top.specs.Command.{replay_outputs, run_of};
+ghost use Rattle.state_wire.specs.Guest.{after_turn};
+ghost use Rattle.colo_top.specs.Command.{HasRam, replay_outputs, run_of};
 ghost use Rattle.colo_top.specs.Files.{HasFiles, Appends, WriteFailed, WritesOnly};
 ghost use Rattle.colo_top.specs.Idle.{idle_event, idle_events};
 ghost use Rattle.colo_top.specs.Log.{log_text};
-ghost use Rattle.colo_top.specs.Machine.{run_turn};
 ghost use Rattle.colo_top.specs.Outcome.{Completes, FailsBy};
 ghost use Rattle.colo_top.specs.Replay.{RunDone, run_files};
-ghost use Rattle.colo_top.specs.Run.{run_from};
-ghost use Rattle.colo_top.specs.RunSteps.{WritesLast, WritesLastPart, TurnFails, RunFails, PreparedFails};
+ghost use Rattle.colo_top.specs.RunSteps.{WritesLast, WritesLastPart, TurnFails, RunFails, PreparedFails, after_turns};
+ghost use Rattle.colo_top.specs.Schedule.{IsInLimits, frameless_turn};
 ghost use Rattle.colo_top.specs.Words.{replay_command};
 
-use crate::fault::{Fault, Refusal, read_fault, write_fault};
+use crate::fault::{Fault, read_fault, write_fault};
 use crate::input::read_all;
 use crate::log::{idle_text, summary};
-use crate::machine::{Machine, TurnFault};
 use crate::output::{Output, REPLAY_OUTPUTS, append_to, create_all};
-use crate::prepare::{Ready, prepare};
-use crate::schedule::Turn;
+use crate::parts::{disk_of, memory_of};
+use crate::prepare::{Started, start};
+use crate::schedule::{Turn, read_schedule};
 use crate::words::Run;
-use colo_base::{Shelf, ShelfFault};
+use colo_base::{Frames, NoMemory, Shelf, ShelfFault};
+use state_wire::Guest;
 use std::alloc::Global;
 
-/// The size of memory where the words don't say it, in MiB.
-const DEFAULT_MIB: usize = 16;
+/// Makes a turn that takes no frame. What the guest sends isn't released.
+fn make_turn<G: Guest>(alloc: Global, guest: &mut G, turn: &Turn) -> Result<(), NoMemory>
+    requires { IsInLimits turn.now }
+    ensures { OnOk result (G.meaning guest.new
+        ≡ after_turn (G.meaning guest.old) (frameless_turn turn.now)) }
+{
+    let mut sent = Frames::new(alloc);
+    guest.turn(
+        u64::from(turn.ticks),
+        None,
+        turn.requests,
+        turn.steps,
+        &mut sent,
+    )
+}
 
 /// Runs one turn, and adds the text of its event to the log.
-fn run_turn<S: Shelf>(
+fn run_turn<S: Shelf, G: Guest>(
     alloc: Global,
     shelf: &mut S,
     out: &str,
-    machine: &mut Machine,
+    guest: &mut G,
     turn: &Turn,
 ) -> Result<(), Fault>
-    ensures ran { OnOk result (run_turn machine.old turn.now.ticks turn.now.steps
-        ≡ Some machine.new) }
+    requires { IsInLimits turn.now }
+    ensures ran { OnOk result (G.meaning guest.new
+        ≡ after_turn (G.meaning guest.old) (frameless_turn turn.now)) }
     ensures logged { OnOk result (Appends (S.state shelf.old)
         (S.state shelf.new) out.now Output.Log (record_text (idle_event turn.now))) }
     ensures change { WritesOnly out.now replay_outputs (S.state shelf.old) (S.state shelf.new) }
     ensures counts { OnOk result (NoWriteFailed (S.state shelf.old) (S.state shelf.new)) }
     ensures fails { IfErr result (TurnFails (S.state shelf.old)
-        (S.state shelf.new) out.now machine.old turn.now) }
+        (S.state shelf.new) out.now turn.now) }
 {
-    match machine.turn(turn.ticks, turn.steps) {
-        Ok(()) => {}
-        Err(TurnFault::NotBuilt) => return Err(Fault::Refused(Refusal::NotBuilt)),
-        Err(TurnFault::NoMemory) => return Err(Fault::NoMemory),
-    }
+    make_turn(alloc, guest, turn)?;
     let Ok(text) = idle_text(alloc, turn) else {
         return Err(Fault::NoMemory);
     };
@@ -60,24 +71,26 @@ fn run_turn<S: Shelf>(
 }
 
 /// Runs the turns, and adds the text of each event to the log, which was empty.
-fn run_schedule<S: Shelf>(
+fn run_schedule<S: Shelf, G: Guest>(
     alloc: Global,
     shelf: &mut S,
     out: &str,
-    machine: &mut Machine,
+    guest: &mut G,
     turns: &[Turn],
 ) -> Result<(), Fault>
-    requires { HasFiles (S.state shelf.old) out.now (run_files [] [] []) }
-    ensures ran { OnOk result (run_from machine.old turns.now ≡ Some machine.new) }
+    requires files { HasFiles (S.state shelf.old) out.now (run_files [] [] []) }
+    requires limits { All IsInLimits turns.now }
+    ensures ran { OnOk result (G.meaning guest.new
+        ≡ after_turns (G.meaning guest.old) turns.now) }
     ensures logged { OnOk result (HasFiles (S.state shelf.new) out.now (run_files (log_text
         (idle_events turns.now)) [] [])) }
     ensures change { WritesOnly out.now replay_outputs (S.state shelf.old) (S.state shelf.new) }
     ensures counts { OnOk result (NoWriteFailed (S.state shelf.old) (S.state shelf.new)) }
-    ensures fails { IfErr result (RunFails (S.state shelf.old)
-        (S.state shelf.new) out.now machine.old turns.now) }
+    ensures fails { (frames : List (List ℕ)) → IfErr result (RunFails (S.state shelf.old)
+        (S.state shelf.new) out.now (G.meaning guest.old) frames turns.now) }
 {
     for turn in turns {
-        run_turn(alloc, shelf, out, machine, turn)?;
+        run_turn(alloc, shelf, out, guest, turn)?;
     }
     Ok(())
 }
@@ -104,34 +117,38 @@ fn write_last<S: Shelf>(
 }
 
 /// Runs what is ready, and writes the files. Gives the summary's line.
-fn run_prepared<S: Shelf>(
+fn run_prepared<S: Shelf, G: Guest>(
     alloc: Global,
     shelf: &mut S,
     out: &str,
-    ready: Ready,
+    guest: &mut G,
+    turns: &[Turn],
 ) -> Result<String, Fault>
-    ensures done { IfOk result (λ line. RunDone
-        (S.state shelf.new) out.now ready.machine ready.turns.items (string_bytes line)) }
-    ensures fails { IfErr result (PreparedFails (S.state shelf.old)
-        (S.state shelf.new) out.now ready.machine ready.turns.items) }
+    requires { All IsInLimits turns.now }
+    ensures done { (frames : List (List ℕ)) → IfOk result (λ line. RunDone
+        (S.state shelf.new) out.now (G.meaning guest.old) frames turns.now (string_bytes line)) }
+    ensures fails { (frames : List (List ℕ)) → IfErr result (PreparedFails (S.state shelf.old)
+        (S.state shelf.new) out.now (G.meaning guest.old) frames turns.now) }
     ensures change { WritesOnly out.now replay_outputs (S.state shelf.old) (S.state shelf.new) }
     ensures counts { OnOk result (NoWriteFailed (S.state shelf.old) (S.state shelf.new)) }
 {
-    let Ready { mut machine, turns } = ready;
     if let Err(fault) = create_all(alloc, shelf, out, &REPLAY_OUTPUTS) {
         return Err(write_fault(fault));
     }
-    run_schedule(alloc, shelf, out, &mut machine, &turns)?;
-    if let Err(fault) = write_last(alloc, shelf, out, machine.memory(), machine.disk()) {
+    run_schedule(alloc, shelf, out, guest, turns)?;
+    let ram = memory_of(alloc, guest)?;
+    let disk = disk_of(alloc, guest)?;
+    if let Err(fault) = write_last(alloc, shelf, out, &ram, &disk) {
         return Err(write_fault(fault));
     }
-    let line = summary(alloc, &turns)?;
+    let line = summary(alloc, turns)?;
     Ok(line)
 }
 
 /// Carries out a replay: reads its files, runs its schedule and writes its files. Gives the
 /// summary's line.
 pub fn replay<S: Shelf>(alloc: Global, shelf: &mut S, words: &Run<'_>) -> Result<String, Fault>
+    requires { HasRam words.now }
     ensures done { IfOk result (λ line. Completes (replay_command (run_of words.now))
         (S.state shelf.old) (S.state shelf.new) (string_bytes line)) }
     ensures fails { IfErr result (FailsBy (replay_command (run_of words.now))
@@ -141,6 +158,8 @@ pub fn replay<S: Shelf>(alloc: Global, shelf: &mut S, words: &Run<'_>) -> Result
         Ok(inputs) => inputs,
         Err(fault) => return Err(read_fault(fault)),
     };
-    let ready = prepare(alloc, DEFAULT_MIB, inputs)?;
-    run_prepared(alloc, shelf, words.out, ready)
+    let started = start(alloc, words.mib, &inputs)?;
+    let Started { mut machine, .. } = started;
+    let turns = read_schedule(alloc, &inputs.lines)?;
+    run_prepared(alloc, shelf, words.out, &mut machine, &turns)
 }

@@ -1,8 +1,8 @@
 //! The schedules that are run: those whose lines are all turns of the primary.
 
-ghost use Rattle.std.specs.Prelude.{◌≡◌, ◌≢◌, List, map, IfOk, IfErr, IfSome, IfNone};
+ghost use Rattle.std.specs.Prelude.{◌≡◌, ◌≢◌, List, map, All, IfOk, IfErr, IfSome, IfNone};
 ghost use Rattle.colo_top.specs.RunSteps.{FailsTest};
-ghost use Rattle.colo_top.specs.Schedule.{IsTurnSchedule, line_of};
+ghost use Rattle.colo_top.specs.Schedule.{IsInLimits, IsTurnSchedule, line_of};
 ghost use Rattle.colo_top.specs.Tests.{TestSchedule};
 
 use crate::fault::{Fault, Refusal};
@@ -44,9 +44,8 @@ fn turns_in(alloc: Global, lines: &[Line]) -> Result<Option<Vec<Turn>>, NoMemory
     Ok(Some(turns))
 }
 
-/// The turns whose schedule the text is. It is refused where a line is bad, and where a line isn't
-/// a turn of the primary.
-pub fn read_schedule(alloc: Global, text: &[u8]) -> Result<Vec<Turn>, Fault>
+/// The turns whose schedule the text is.
+fn parse_turns(alloc: Global, text: &[u8]) -> Result<Vec<Turn>, Fault>
     ensures turns { IfOk result (λ turns. IsTurnSchedule turns.items text.now) }
     ensures refused { IfErr result (FailsTest (TestSchedule text.now)) }
 {
@@ -58,4 +57,15 @@ pub fn read_schedule(alloc: Global, text: &[u8]) -> Result<Vec<Turn>, Fault>
         Err(LineFault::NoMemory) => Err(Fault::NoMemory),
         Err(LineFault::Bad { line, .. }) => Err(Fault::Refused(Refusal::BadLine(line))),
     }
+}
+
+/// The turns whose schedule the text is. It is refused where a line is bad, and where a line isn't
+/// a turn of the primary.
+pub fn read_schedule(alloc: Global, text: &[u8]) -> Result<Vec<Turn>, Fault>
+    ensures turns { IfOk result (λ turns. IsTurnSchedule turns.items text.now) }
+    ensures limits { IfOk result (λ turns. All IsInLimits turns.items) }
+    ensures refused { IfErr result (FailsTest (TestSchedule text.now)) }
+{
+    let turns = parse_turns(alloc, text)?;
+    Ok(turns)
 }

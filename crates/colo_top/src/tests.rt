@@ -146,18 +146,16 @@ fn idle_turns_leave_five_files(rt: HostRuntime) -> Result<(), Fail> {
 }
 
 #[test]
-fn programs_leave_their_memory(rt: HostRuntime) -> Result<(), Fail> {
+fn images_are_loaded_to_memory(rt: HostRuntime) -> Result<(), Fail> {
     for program in PROGRAMS {
         let bytes = image(rt.alloc(), program.changes, program.words)?;
-        let mut shelf = files(rt.alloc(), &bytes, program.schedule)?;
-        ends(&rt, &REPLAY, &mut shelf, 0, program.line)?;
+        let mut shelf = files(rt.alloc(), &bytes, "")?;
+        let line = "lines 0 released 0 captured 0\n";
+        ends(&rt, &REPLAY, &mut shelf, 0, line)?;
         assert!(rt; leaves(&shelf, program.leaves), "{}", program.words.len());
     }
     Ok(())
 }
-
-/// Loads from the network device: lui x5, 0x10001, and lw x10, 0(x5).
-const DEVICE: [u32; 2] = [0x1000_12B7, 0x0002_A503];
 
 #[test]
 fn each_status_prints_its_line(rt: HostRuntime) -> Result<(), Fail> {
@@ -167,12 +165,40 @@ fn each_status_prints_its_line(rt: HostRuntime) -> Result<(), Fail> {
     ends(&rt, &REPLAY, &mut shelf, 2, "image: 10\n")?;
     let missing = ["replay", "missing", "disk", "client", "schedule", "out"];
     ends(&rt, &missing, &mut shelf, 6, "read failed\n")?;
-    let device = image(rt.alloc(), &[(17, 8), (18, 8)], &DEVICE)?;
-    let mut shelf = files(rt.alloc(), &device, "P 0 0 0 1\nP 0 0 0 1\nP 0 0 0 0\n")?;
-    ends(&rt, &REPLAY, &mut shelf, 9, "not built\n")?;
-    assert!(rt; has(&shelf, "out.log", b"P 0 0 0 1 : - 0\n"));
-    shelf.fail(15)?;
+    let jump = image(rt.alloc(), &[], &JUMP)?;
+    let mut shelf = files(rt.alloc(), &jump, THREE_TURNS)?;
+    shelf.fail(11)?;
     ends(&rt, &REPLAY, &mut shelf, 7, "write failed\n")?;
+    assert!(rt; has(&shelf, "out.log", b"P 10 0 0 5 : - 0\n"));
+    Ok(())
+}
+
+/// Options of a run, and whether they are.
+const OPTIONS: [(&[&str], Option<usize>); 9] = [
+    (&["--ram", "1"], Some(1_048_576)),
+    (&["--ram", "64"], Some(67_108_864)),
+    (&["--ram", "0"], None),
+    (&["--ram", "65"], None),
+    (&["--ram", "01"], None),
+    (&["--ram", "+1"], None),
+    (&["--ram"], None),
+    (&["--rom", "1"], None),
+    (&["--ram", "1", "--ram", "1"], None),
+];
+
+#[test]
+fn memory_has_the_size_that_the_words_say(rt: HostRuntime) -> Result<(), Fail> {
+    let jump = image(rt.alloc(), &[], &JUMP)?;
+    for (options, size) in OPTIONS {
+        let mut shelf = files(rt.alloc(), &jump, THREE_TURNS)?;
+        let mut words = Vec::from_slice(rt.alloc(), &REPLAY)?;
+        words.extend_from_slice(options)?;
+        let mut out = MemorySink::new(rt.alloc());
+        let status = call(rt.alloc(), &words, &mut shelf, &mut out)?;
+        let ram = shelf.contents("out.ram").map(|bytes| bytes.len());
+        assert_eq!(rt; status, if size.is_some() { 0 } else { 1 });
+        assert_eq!(rt; ram, size);
+    }
     Ok(())
 }
 

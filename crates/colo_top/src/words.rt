@@ -1,12 +1,17 @@
 //! The words of a command line.
 
-ghost use Rattle.std.specs.Prelude.{◌≡◌, IfSome, option_map, string_bytes};
+ghost use Rattle.std.specs.Prelude.{◌≡◌, ◌≤◌, IfSome, IsSome, option_map};
 ghost use Rattle.std.specs.List.{list_all};
 ghost use Rattle.std.specs.Str.{bytes_eq};
-ghost use Rattle.colo_top.specs.Command.{command_of, NamesImage};
-ghost use Rattle.colo_top.specs.Words.{is_name, read_image, read_replay, read_splice, read_verb, read_words, texts};
+ghost use Rattle.colo_guests.specs.Images.{image};
+ghost use Rattle.colo_top.specs.Command.{HasRam, IsWell, command_of, image_of, run_of, splice_of};
+ghost use Rattle.colo_top.specs.Words.{is_name, read_image, read_mib, read_options, read_run, read_splice, read_verb, read_words, texts};
 
+use ascii_text::read_decimal;
 use colo_guests::has_image;
+
+/// The size of memory where the words don't say it, in MiB.
+const DEFAULT_MIB: u32 = 16;
 
 /// The words of a run: the names of four files that are read, and what the files that are written
 /// are named after.
@@ -22,6 +27,8 @@ pub struct Run<'a> {
     pub lines: &'a str,
     /// What the written files are named after.
     pub out: &'a str,
+    /// The size of memory in MiB.
+    pub mib: u32,
 }
 
 /// The words of `splice`: the log that is read, and the file that is written.
@@ -64,10 +71,10 @@ fn is_name(word: &str) -> bool
 }
 
 /// Whether each word is a name.
-fn are_names(words: &[String]) -> bool
-    ensures { result ≡ list_all (λ word. is_name (string_bytes word)) words.now }
+fn are_names(words: &[&str]) -> bool
+    ensures { result ≡ list_all (λ word. is_name word.now) words.now }
 {
-    words.iter().all(|word| is_name(word.as_str()))
+    words.iter().all(|word| is_name(word))
 }
 
 /// Whether the word is this one.
@@ -77,65 +84,96 @@ fn is_word(word: &str, wanted: &str) -> bool
     word == wanted
 }
 
-/// What follows `replay`: five names.
-fn read_replay(names: &[String]) -> Option<Command<'_>>
-    ensures command { option_map command_of result ≡ read_replay (texts names.now) }
-    ensures image { IfSome result NamesImage }
+/// A number of MiB from 1 to 64.
+fn read_mib(word: &str) -> Option<u32>
+    ensures value { result ≡ read_mib word.now }
+    ensures range { IfSome result (λ mib. (1 ≤ mib) × (mib ≤ 64)) }
 {
-    let [image, disk, client, lines, out] = names else {
+    match read_decimal(word.as_bytes(), 64) {
+        Ok(mib) if mib >= 1 => Some(mib as u32),
+        _ => None,
+    }
+}
+
+/// What the options say of memory: `--ram N`, or nothing.
+fn read_options(words: &[String]) -> Option<u32>
+    ensures value { result ≡ read_options (texts words.now) }
+    ensures range { IfSome result (λ mib. (1 ≤ mib) × (mib ≤ 64)) }
+{
+    match words {
+        [] => Some(DEFAULT_MIB),
+        [option, number] if is_word(option.as_str(), "--ram") => read_mib(number.as_str()),
+        _ => None,
+    }
+}
+
+/// What follows the verb of a run: five names, and then options.
+fn read_run(words: &[String]) -> Option<Run<'_>>
+    ensures run { option_map run_of result ≡ read_run (texts words.now) }
+    ensures ram { IfSome result HasRam }
+{
+    let [image, disk, client, lines, out, options @ ..] = words else {
         return None;
     };
-    Some(Command::Replay(Run {
+    let run = Run {
         image: image.as_str(),
         disk: disk.as_str(),
         client: client.as_str(),
         lines: lines.as_str(),
         out: out.as_str(),
-    }))
+        mib: read_options(options)?,
+    };
+    if !are_names(&[run.image, run.disk, run.client, run.lines, run.out]) {
+        return None;
+    }
+    Some(run)
 }
 
 /// What follows `splice`: two names.
-fn read_splice(names: &[String]) -> Option<Command<'_>>
-    ensures command { option_map command_of result ≡ read_splice (texts names.now) }
-    ensures image { IfSome result NamesImage }
+fn read_splice(words: &[String]) -> Option<Splice<'_>>
+    ensures { option_map splice_of result ≡ read_splice (texts words.now) }
 {
-    let [log, out] = names else {
+    let [log, out] = words else {
         return None;
     };
-    Some(Command::Splice(Splice {
+    let splice = Splice {
         log: log.as_str(),
         out: out.as_str(),
-    }))
+    };
+    if !are_names(&[splice.log, splice.out]) {
+        return None;
+    }
+    Some(splice)
 }
 
 /// What follows `image`: the image's name, and a name.
-fn read_image(names: &[String]) -> Option<Command<'_>>
-    ensures command { option_map command_of result ≡ read_image (texts names.now) }
-    ensures image { IfSome result NamesImage }
+fn read_image(words: &[String]) -> Option<WriteImage<'_>>
+    ensures image { option_map image_of result ≡ read_image (texts words.now) }
+    ensures named { IfSome result (λ c. IsSome (image c.name.now)) }
 {
-    let [name, out] = names else {
+    let [name, out] = words else {
         return None;
     };
-    if !has_image(name.as_str()) {
+    if !has_image(name.as_str()) || !is_name(out.as_str()) {
         return None;
     }
-    Some(Command::WriteImage(WriteImage {
+    Some(WriteImage {
         name: name.as_str(),
         out: out.as_str(),
-    }))
+    })
 }
 
-/// The command that a first word and the names after it spell.
-fn read_verb<'a>(verb: &str, names: &'a [String]) -> Option<Command<'a>>
-    ensures command { option_map command_of result ≡ read_verb verb.now (texts names.now) }
-    ensures image { IfSome result NamesImage }
+/// The command that a first word and the words after it spell.
+fn read_verb<'a>(verb: &str, words: &'a [String]) -> Option<Command<'a>>
+    ensures command { option_map command_of result ≡ read_verb verb.now (texts words.now) }
+    ensures well { IfSome result IsWell }
 {
     if is_word(verb, "replay") {
-        read_replay(names)
+        Some(Command::Replay(read_run(words)?))
     } else if is_word(verb, "splice") {
-        read_splice(names)
+        Some(Command::Splice(read_splice(words)?))
     } else if is_word(verb, "image") {
-        read_image(names)
+        Some(Command::WriteImage(read_image(words)?))
     } else {
         None
     }
@@ -144,12 +182,8 @@ fn read_verb<'a>(verb: &str, names: &'a [String]) -> Option<Command<'a>>
 /// The command that the words spell; `None` exactly where they spell none.
 pub fn read_words(words: &[String]) -> Option<Command<'_>>
     ensures command { option_map command_of result ≡ read_words (texts words.now) }
-    ensures image { IfSome result NamesImage }
+    ensures well { IfSome result IsWell }
 {
-    let (verb, names) = words.split_first()?;
-    if are_names(names) {
-        read_verb(verb.as_str(), names)
-    } else {
-        None
-    }
+    let (verb, words) = words.split_first()?;
+    read_verb(verb.as_str(), words)
 }
