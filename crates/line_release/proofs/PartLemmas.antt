@@ -79,7 +79,7 @@ length-forgotten l o = (λ i. length (if o i then map (λ (k : ℕ). byte 0) (ra
     ∙ length-map-range_with_len (λ (k : ℕ). byte 0) 0 l.base
 
 -- from an offset on that isn't trimmed
-from-kept : (l : LineFields) (from : ℕ) → is_some l.opening ≡ true → l.base ≤ from →
+pub from-kept : (l : LineFields) (from : ℕ) → is_some l.opening ≡ true → l.base ≤ from →
     drop from (whole_of l).symbols ≡ drop (from - l.base) (syn_kept l ++ data_kept l)
 from-kept l from o low =
     let at : from ≡ length (forgotten l) + (from - l.base) = omega (arith, low, length-forgotten l o) in

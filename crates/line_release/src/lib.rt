@@ -6,6 +6,7 @@ mod parts;
 mod segments;
 
 pub use both::Both;
+pub use parts::has_syn_between;
 
 #[cfg(test)]
 mod tests;

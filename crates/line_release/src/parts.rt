@@ -21,7 +21,7 @@ pub(crate) fn bytes_between<'a>(line: &'a Line, from: Offset, to: Offset) -> &'a
 }
 
 /// Says whether SYN is among the symbols of a line from one offset up to another.
-pub(crate) fn has_syn_between(line: &Line, from: Offset, to: Offset) -> bool
+pub fn has_syn_between(line: &Line, from: Offset, to: Offset) -> bool
     requires { line.now.base ≤ from }
     ensures { result ≡ has_symbol syn (symbols_between line.now from to) }
 {

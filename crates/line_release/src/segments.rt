@@ -184,12 +184,12 @@ impl<'a> Both<'a> {
     }
 
     /// Adds SYN, where it is to go, with the smaller maximum segment size.
-    fn put_syn(&self, alloc: Global, has_syn: bool, out: &mut Frames) -> Result<(), NoMemory>
+    pub fn release_syn(&self, alloc: Global, goes: bool, out: &mut Frames) -> Result<(), NoMemory>
         ensures ok { OnOk result (out.new ≡ out.old
-            ++ map released_frame (syn_segments (both_of self.now) has_syn)) }
+            ++ map released_frame (syn_segments (both_of self.now) goes)) }
         ensures err { OnErr result (out.new ≡ out.old) }
     {
-        if has_syn {
+        if goes {
             let mss = self.agreed_mss();
             self.put_segment(alloc, 0, SYN_ACK, Some(mss), &[], out)
         } else {
@@ -215,7 +215,7 @@ impl<'a> Both<'a> {
     {
         let bytes = bytes_between(self.mine, from, to);
         let ends = has_fin_between(self.mine, from, to);
-        self.put_syn(alloc, has_syn_between(self.mine, from, to), out)?;
+        self.release_syn(alloc, has_syn_between(self.mine, from, to), out)?;
         self.put_data(alloc, from.max(1), bytes, ends, out)
     }
 

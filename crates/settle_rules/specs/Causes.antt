@@ -5,12 +5,8 @@ use Rattle.colo_base.specs.declared.fault.Cause.{Cause}
 use Rattle.colo_base.specs.declared.fault.Cause.TheVariants.{Differ, Restart, Wait}
 use Rattle.inet_frame.specs.declared.tuple.Tuple.{Tuple}
 use Rattle.settle_rules.specs.Matching.{differs_at, matched_end}
-use Rattle.settle_rules.specs.Progress.{ProgressTable, progress_of}
+use Rattle.settle_rules.specs.Progress.{ProgressTable, progress_of, longest_wait}
 use Rattle.settle_rules.specs.Settle.{Scene, both_lines, is_restarted, is_empty}
-
--- how many turns of the primary a connection may stay unmatched
-abbrev pub longest_wait : ℕ
-longest_wait = 256
 
 -- where the two lines of a tuple are matched up to, after the settling
 unfoldable pub matched_end_of : Scene → ProgressTable → Tuple → ℕ

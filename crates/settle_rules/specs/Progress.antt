@@ -1,6 +1,6 @@
 -- What the releasing node keeps of a connection beside its lines: how far it was released, what is
 -- due, how long it is unmatched.
-use Rattle.std.specs.Prelude.{ℕ, Bool, false, not, List, ◌∷◌, find, filter, map, Option, None}
+use Rattle.std.specs.Prelude.{ℕ, ◌+◌, min, Bool, false, not, List, ◌∷◌, find, filter, map, Option, None}
 use Rattle.std.specs.Option.{option_map_or}
 use Rattle.inet_frame.specs.declared.tuple.Tuple.{Tuple}
 use Rattle.tcp_track.specs.Segments.{same_tuple}
@@ -17,6 +17,14 @@ pub record AgeKey : Type 0 where
   pub client : ℕ
   pub matched : ℕ
   pub acked : ℕ
+
+-- how many turns of the primary a connection may stay unmatched
+abbrev pub longest_wait : ℕ
+longest_wait = 256
+
+-- one turn more, up to one past the longest wait: no older connection is a cause
+abbrev pub older : ℕ → ℕ
+older age = min (age + 1) (longest_wait + 1)
 
 -- The edge is the number of symbols released. Last are the acknowledgement and window last released
 -- in a segment that is no refusal; shown is the SYN last released; the age is in turns of the

@@ -7,7 +7,7 @@ use Rattle.tcp_track.specs.declared.openings.Opening.{Opening}
 use Rattle.settle_rules.specs.Matching.{BothLines, agreed_ack_window}
 use Rattle.settle_rules.specs.Numbers.{KeptNumber, keep_number, kept_number, number_or_zero}
 use Rattle.settle_rules.specs.Progress.{Progress, ProgressTable, no_progress, put_progress}
-use Rattle.settle_rules.specs.Release.{Released, release_symbols, release_reset, release_refusal}
+use Rattle.settle_rules.specs.Release.{Released, syn_segments, release_symbols, release_reset, release_refusal}
 
 -- a node's own line in the place of both
 abbrev pub lone_lines : Tuple → Line → ℕ → BothLines
@@ -32,7 +32,7 @@ survivor_progress b o = record no_progress {
 unfoldable pub survivor_out : BothLines → List Released
 unfolding release_symbols
 survivor_out b =
-    release_symbols b 0 1
+    syn_segments b true
     ++ release_symbols b (max 1 b.mine.base) (length b.mine.symbols)
     ++ release_reset b (length b.mine.symbols) b.mine.reset
     ++ release_refusal b b.mine.refused (is_some b.mine.refused)
