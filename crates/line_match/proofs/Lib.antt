@@ -1,0 +1,4 @@
+pub mod MatchLemmas
+pub mod PrefixLemmas
+pub mod RestLemmas
+pub mod SymbolLemmas

@@ -1,0 +1,3 @@
+pub mod Untrimmed
+pub mod Rest
+pub mod SymbolOf

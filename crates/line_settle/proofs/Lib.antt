@@ -1,0 +1,4 @@
+pub mod EndLemmas
+pub mod OutLemmas
+pub mod PartLemmas
+pub mod ShownLemmas

@@ -1,0 +1,2 @@
+pub mod ProgressFields
+pub mod Parts

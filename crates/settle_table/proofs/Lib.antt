@@ -1,0 +1,4 @@
+pub mod AgeLemmas
+pub mod KeptLemmas
+pub mod StepLemmas
+pub mod TableLemmas
