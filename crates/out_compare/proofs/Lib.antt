@@ -1,0 +1,3 @@
+pub mod NoteLemmas
+pub mod OrderLemmas
+pub mod SurviveLemmas

@@ -1,0 +1,5 @@
+pub mod Comparing
+pub mod Noting
+pub mod Look
+pub mod Surviving
+pub mod Held
