@@ -1,9 +1,8 @@
 -- A client stream that was fed whole.
-use Rattle.std.proofs.Common.{◌≡◌, ◌≢◌, ℕ, ◌+◌, ◌-◌, true, false, List, [], ◌∷◌, ◌++◌, length, Option, Some, None, inl, inr, refl, sym, ap, ◌∙◌, subst, arith}
-use Rattle.std.proofs.lemmas.List.{append-nil}
+use Rattle.std.proofs.Common.{◌≡◌, ◌≢◌, ℕ, true, List, [], ◌∷◌, length, Some, refl, sym, ap, ◌∙◌, subst}
 use Rattle.sock_link.specs.Stream.{is_too_long, stream_of, IsSplit}
 use Rattle.sock_link.specs.Unframed.{Unframed, nothing_fed, Feeds, Stands}
-use Rattle.sock_link.proofs.HistoryLemmas.{feeds_stand, begins_stream, tells_boundary, tells_too_long}
+use Rattle.sock_link.proofs.HistoryLemmas.{feeds_stand, begins_stream, tells_boundary}
 use Rattle.colo_top.specs.declared.fault.Refusal.TheVariants.{BadClient}
 use Rattle.colo_top.specs.Tests.{rest_fault, TestClient}
 
@@ -37,7 +36,8 @@ pub breaks_off_long : (now : Unframed) (client : List ℕ) → Feeds nothing_fed
 breaks_off_long now client fed long = breaks_off now client (fed_whole now client fed) (too_long_some now.part long)
 
 -- without a rest the stream is its frames
-pub whole_stream : (now : Unframed) (client : List ℕ) → Stands now client [] → now.part ≡ [] → IsSplit client now.frames []
+pub whole_stream : (now : Unframed) (client : List ℕ) → Stands now client [] → now.part ≡ []
+    → IsSplit client now.frames []
 whole_stream now client stands none =
     let told = tells_boundary now client stands.rest [] now.frames stands stands.split in
     let P : List ℕ → Type 0 = λ rest. IsSplit client now.frames rest in

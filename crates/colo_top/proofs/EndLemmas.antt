@@ -1,5 +1,5 @@
 -- From how a command ends to what is promised of the call.
-use Rattle.std.proofs.Common.{◌≡◌, ℕ, List, [], ◌∷◌, ◌++◌, Option, Some, None, IsTrue, ◌⊎◌, inl, inr, refl, sym, ap, ◌∙◌, subst}
+use Rattle.std.proofs.Common.{◌≡◌, ℕ, List, Option, Some, None, IsTrue, ◌⊎◌, inl, inr, refl, sym, ap, ◌∙◌, subst}
 use Rattle.colo_base.specs.Count.{Increased}
 use Rattle.colo_base.specs.Shelf.{ShelfState, ChangesOnly}
 use Rattle.colo_base.specs.Sink.{Puts, PutsPart, SinkGoesOn}
@@ -10,7 +10,7 @@ use Rattle.colo_top.specs.declared.fault.Refusal.{Refusal}
 use Rattle.colo_top.specs.declared.fault.Refusal.TheVariants.{BadImage, BadDisk, BadLine, BadClient, NotBuilt}
 use Rattle.colo_top.specs.Command.{out_of, outputs_of, reads}
 use Rattle.colo_top.specs.Files.{IsFileOf, KeepsFiles, WritesOnly}
-use Rattle.colo_top.specs.Outcome.{IsDone, IsCutOff, Judges, Stops, WrittenAtStop, IsUntouched, FailsTests, FailsInRun, FailsBy, Fails, Succeeds}
+use Rattle.colo_top.specs.Outcome.{IsDone, IsCutOff, Judges, Stops, IsUntouched, FailsBy, Fails, Succeeds}
 use Rattle.colo_top.specs.Reading.{IsMissing, Texts}
 use Rattle.colo_top.specs.Replay.{Prepared, Start}
 use Rattle.colo_top.specs.Status.{status, line, refusal_status, refusal_line}
@@ -38,7 +38,8 @@ judged_there (replay_command c) s found seen (texts, read, p) (inr (inr (inl non
 judged_there (replay_command c) s found seen (texts, read, p) (inr (inr (inr (inl none)))) =
     no_bytes (s.contents c.lines) texts.lines (read.lines seen) none
 judged_there (replay_command c) s found seen (texts, read, p) (inr (inr (inr (inr none)))) = none
-judged_there (splice_command c) s found seen (text, read, p) (inl none) = no_bytes (s.contents c.log) text (read seen) none
+judged_there (splice_command c) s found seen (text, read, p) (inl none) =
+    no_bytes (s.contents c.log) text (read seen) none
 judged_there (splice_command c) s found seen (text, read, p) (inr none) = none
 judged_there (image_command c) s found seen p none = none
 
@@ -233,11 +234,13 @@ module _ (call : Call) (command : Command) (spelled : read_words call.words ≡ 
   missing : (fault : Fault) → FailsBy command old new fault → call.status ≡ status fault → IsTrue old.observable
       → IsMissing old (reads command) → OnMissing call.status
   missing Usage why is seen none = absurd why
-  missing (Refused found) (inl tests) is seen none = absurd (judged_there command old (Some found) seen tests.found none)
+  missing (Refused found) (inl tests) is seen none =
+      absurd (judged_there command old (Some found) seen tests.found none)
   missing (Refused found) (inr run) is seen none =
       absurd (judged_there command old None seen (stop_judged command old found run.stop) none)
   missing Read why is seen none = inl is
-  missing Write why is seen none = absurd (judged_there command old None seen (cut_judged command old new why.files) none)
+  missing Write why is seen none =
+      absurd (judged_there command old None seen (cut_judged command old new why.files) none)
   missing NoMemory why is seen none = inr is
 
   refusal_found : (fault : Fault) → FailsBy command old new fault → call.status ≡ status fault → (refusal : Refusal)

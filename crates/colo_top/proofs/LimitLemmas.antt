@@ -38,7 +38,8 @@ all_in_limits : (turns : List Turn) → All (HasSpelling schedule_forms) (map it
 all_in_limits [] h = All-nil IsInLimits
 all_in_limits (t ∷ ts) h =
     let rest = map item.Line (map line_of ts) in
-    All-cons IsInLimits t ts (turn_in_limits t (All-head (HasSpelling schedule_forms) (item.Line (line_of t)) rest h).numbers)
+    All-cons IsInLimits t ts
+    (turn_in_limits t (All-head (HasSpelling schedule_forms) (item.Line (line_of t)) rest h).numbers)
     (all_in_limits ts (All-tail (HasSpelling schedule_forms) (item.Line (line_of t)) rest h))
 
 pub turns_in_limits : (turns : List Turn) (text : List ℕ) → IsTurnSchedule turns text → All IsInLimits turns

@@ -1,5 +1,5 @@
 -- From the parts of a command to the whole of it.
-use Rattle.std.proofs.Common.{◌≡◌, ℕ, List, [], ◌∷◌, ◌++◌, Some, None, ◌⊎◌, inl, inr, lit<, refl, sym, ap, ◌∙◌, fold, Result, Ok, Err, IfOk, IfErr, OnOk, String, string_bytes, IsTrue}
+use Rattle.std.proofs.Common.{◌≡◌, ℕ, List, [], ◌∷◌, Some, ◌⊎◌, inl, inr, lit<, refl, ◌∙◌, Result, Ok, Err, IfOk, IfErr, OnOk, String, string_bytes, IsTrue}
 use Rattle.std.specs.declared.alloc.Global.{Global}
 use Rattle.colo_base.specs.Count.{Increased}
 use Rattle.colo_base.specs.Shelf.{ShelfState, NoFetchFailed, NoWriteFailed}
@@ -125,8 +125,10 @@ module _ (old mid new : ShelfState) (out bytes : List ℕ) (created : WritesOnly
   pub append_fails : (fault : ShelfFault) → AppendsPart mid new out Named bytes → (fault ≡ Failed
       → Increased (mid.write_faults (file_name out Named)) (new.write_faults (file_name out Named)))
       → FileFails old new out bytes (write_fault fault)
-  append_fails Failed part cause =
-      (failed_from out named_outputs old mid new created (Named, (0, lit< tt, refl), cause refl), inr (front_written part))
+  append_fails Failed part cause = (
+    failed_from out named_outputs old mid new created (Named, (0, lit< tt, refl), cause refl),
+    inr (front_written part),
+  )
   append_fails shelf_memory part cause = inr (front_written part)
 
 pub creation_fails : (old new : ShelfState) (out bytes : List ℕ) (fault : ShelfFault)
@@ -145,7 +147,8 @@ whole_front now out bytes files = record { part = bytes; front = front_itself by
 pub image_unmade : (c : ImageWords) (s : ShelfState) → FailsBy (image_command c) s s NoMemory
 image_unmade c s = record { files = inl (changes_none (λ name. ⊥) s) }
 
-module _ (c : ImageWords) (from : HasImage c) (old new : ShelfState) (change : WritesOnly c.out named_outputs old new) where
+module _ (c : ImageWords) (from : HasImage c) (old new : ShelfState)
+    (change : WritesOnly c.out named_outputs old new) where
   pub image_fails : (fault : Fault) → FileFails old new c.out from.bytes fault → FailsBy (image_command c) old new fault
   image_fails Usage fails = fails
   image_fails (Refused refusal) fails = absurd fails
@@ -205,7 +208,8 @@ module _ (c : SpliceWords) (old mid : ShelfState) (text : List ℕ) (read : HasF
     splice_fails Read fails = absurd fails
     splice_fails Write fails =
         record {
-          failed = failed_from c.out named_outputs old mid new (writes_after c.out named_outputs old mid mid kept fetches
+          failed = failed_from c.out named_outputs old mid new
+              (writes_after c.out named_outputs old mid mid kept fetches
               (writes_none c.out named_outputs mid)) fails.0;
           files = record { from = from; files = cut_from fails.1 };
           change = all_written;

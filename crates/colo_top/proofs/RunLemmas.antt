@@ -1,11 +1,11 @@
 -- What the turns of a run and the last writes leave, one after the other.
-use Rattle.std.proofs.Common.{◌≡◌, ℕ, ◌+◌, ◌<◌, ◌≤◌, length, List, [], ◌∷◌, ◌++◌, Some, None, false, inl, inr, lit<, refl, sym, ap, ◌∙◌, subst, take, drop, get_or, All, fold, flat_map}
+use Rattle.std.proofs.Common.{◌≡◌, ℕ, ◌+◌, ◌<◌, ◌≤◌, length, List, [], ◌∷◌, ◌++◌, false, inl, inr, lit<, refl, sym, ap, ◌∙◌, subst, take, drop, get_or, All, flat_map}
 use Rattle.std.specs.Io.{StartsWith}
 use Rattle.std.specs.List.{Contains}
 use Rattle.std.specs.Prelude.{map}
 use Rattle.std.proofs.lemmas.List.{append-nil, append_assoc, map-append, take_more, take_all, drop_more, take-append-drop}
 use Rattle.std.proofs.lemmas.List.Concat.{flat_map-append}
-use Rattle.std.proofs.lemmas.List.Elements.{All-nil, All-cons, All-head, All-tail}
+use Rattle.std.proofs.lemmas.List.Elements.{All-nil, All-cons}
 use Rattle.std.proofs.lemmas.List.Sums.{fold_push}
 use Rattle.colo_base.specs.Count.{Increased}
 use Rattle.colo_base.specs.Shelf.{ShelfState, NoWriteFailed}
@@ -13,10 +13,8 @@ use Rattle.colo_base.specs.declared.traits.ShelfFault.{ShelfFault}
 use Rattle.colo_base.specs.declared.traits.ShelfFault.TheVariants.{Failed, NoMemory as shelf_memory}
 use Rattle.colo_base.proofs.StateLemmas.{front_itself, front_more}
 use Rattle.replay_log.specs.Texts.{record_text}
-use Rattle.replay_log.specs.declared.records.Record.{Record}
 use Rattle.splice_run.specs.Log.{schedule}
 use Rattle.splice_run.specs.Runs.{given_to, run_given, run_turns}
-use Rattle.splice_run.specs.Single.{single_run}
 use Rattle.state_wire.specs.Guest.{Kind, Meaning, after_turn}
 use Rattle.state_wire.specs.Run.{Run}
 use Rattle.colo_top.specs.Schedule.{line_of, frameless_turn, single_turn}
@@ -266,8 +264,8 @@ module _ (machine : Meaning) (frames : List (List ℕ)) (turns : List Turn) wher
   prepared_fails old mid new out NoMemory change fails = inr fails
 
   -- the files weren't all created
-  pub creation_fails : (old new : ShelfState) (out : List ℕ) (fault : ShelfFault) → KeepsOrEmpties out replay_outputs old new
-      → (fault ≡ Failed → WriteFailed out replay_outputs old new)
+  pub creation_fails : (old new : ShelfState) (out : List ℕ) (fault : ShelfFault)
+      → KeepsOrEmpties out replay_outputs old new → (fault ≡ Failed → WriteFailed out replay_outputs old new)
       → PreparedFails old new out machine frames turns (write_fault fault)
   creation_fails old new out Failed kept cause = (cause refl, inl kept)
   creation_fails old new out shelf_memory kept cause = inl kept

@@ -32,7 +32,8 @@ turns_are (t ∷ ts) (r ∷ rs) e idle =
     let line : r.line ≡ line_of t = ap (λ ls. get_or ls 0 (line_of t)) e in
     let rest : schedule rs ≡ map line_of ts = ap (λ ls. drop 1 ls) e in
     ap (λ l. turns_by_primary ((turn_tokens l (made_frame r.answer) ++ mark_tokens r.marks) ++ tokens rs)) line
-    ∙ (ap (λ a. turns_by_primary ((turn_tokens (line_of t) (made_frame a) ++ mark_tokens r.marks) ++ tokens rs)) head.answer
+    ∙ (ap (λ a. turns_by_primary ((turn_tokens (line_of t) (made_frame a) ++ mark_tokens r.marks) ++ tokens rs))
+    head.answer
     ∙ (ap (λ m. turns_by_primary ((turn_tokens (line_of t) (Some None) ++ mark_tokens m) ++ tokens rs)) head.marks
     ∙ ap (λ more. taken_of t ∷ more) (turns_are ts rs rest (All-tail IsIdle r rs idle))))
 

@@ -1,5 +1,5 @@
 -- Two puts in a row.
-use Rattle.std.proofs.Common.{◌≡◌, ℕ, List, ◌++◌, ap, ◌∙◌}
+use Rattle.std.proofs.Common.{ℕ, List, ◌++◌, ap, ◌∙◌}
 use Rattle.std.proofs.lemmas.List.{append_assoc}
 use Rattle.colo_base.specs.Sink.{SinkState, SinkGoesOn, Puts, PutsPart}
 use Rattle.colo_base.proofs.StateLemmas.{front_less, front_more}

@@ -1,12 +1,11 @@
 -- Each test finds one thing, and what refuses one of two tests in a row refuses both.
-use Rattle.std.proofs.Common.{◌≡◌, ◌≢◌, ℕ, true, false, List, [], ◌∷◌, Option, Some, None, IsSomeAnd, length, map, option_map, unwrap_or, ◌⊎◌, inl, inr, refl, sym, ap, ◌∙◌, rules, if◌then◌else◌}
+use Rattle.std.proofs.Common.{◌≡◌, ℕ, true, List, [], Option, Some, None, IsSomeAnd, length, map, option_map, unwrap_or, inl, inr, refl, sym, ap, ◌∙◌}
 use Rattle.disk_buffers.specs.Sectors.{is_length}
 use Rattle.elf_load.specs.Boot.{elf_case}
 use Rattle.guest_machine.specs.Boot.{ram_size}
 use Rattle.replay_log.specs.Cases.{BadLine as LineCase, first_bad}
 use Rattle.replay_log.specs.Forms.{log_forms, schedule_forms}
 use Rattle.replay_log.specs.Texts.{IsLog, IsSchedule, log_items}
-use Rattle.replay_log.specs.declared.forms.Form.{Form}
 use Rattle.replay_log.specs.declared.items.Item.TheVariants as item
 use Rattle.replay_log.specs.declared.lines.Line.{Line}
 use Rattle.replay_log.specs.declared.records.Record.{Record}
@@ -68,7 +67,8 @@ no_bad_schedule text lines a good bad = good_bad (first_bad schedule_forms text)
 
 no_bad_log : (text : List ℕ) (log : List Record) (a : Option Refusal) → IsLog log text
     → FindsBadLine log_forms text a → ⊥
-no_bad_log text log a good bad = good_bad (first_bad log_forms text) a (none_bad log_forms (log_items log) text good) bad
+no_bad_log text log a good bad =
+    good_bad (first_bad log_forms text) a (none_bad log_forms (log_items log) text good) bad
 
 pub one_schedule_test : (text : List ℕ) → One (TestSchedule text)
 one_schedule_test text a b (inl p) (inl q) = same_bad (first_bad schedule_forms text) a b p q

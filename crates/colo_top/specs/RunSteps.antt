@@ -1,5 +1,5 @@
 -- How the parts of a replay end: what is prepared, one turn, the schedule, the last writes.
-use Rattle.std.specs.Prelude.{◌≡◌, ◌≢◌, ℕ, List, [], Some, None, fold, ◌⊎◌}
+use Rattle.std.specs.Prelude.{◌≡◌, ◌≢◌, ℕ, List, [], Some, fold, ◌⊎◌}
 use Rattle.std.specs.Io.{StartsWith}
 use Rattle.colo_base.specs.Shelf.{ShelfState}
 use Rattle.replay_log.specs.Texts.{record_text}

@@ -20,10 +20,11 @@ use std::alloc::Global;
 ///
 /// `words` are those after the program's name.
 ///
-/// - `replay IMAGE DISK CLIENT SCHEDULE OUT` boots the ELF file IMAGE with the disk DISK, runs the primary turns of SCHEDULE,
-///   and writes `OUT.log`, `OUT.released`, `OUT.wire`, `OUT.ram` and `OUT.disk`.
+/// - `replay IMAGE DISK CLIENT SCHEDULE OUT` boots the ELF file IMAGE with the disk DISK, runs the
+///   primary turns of SCHEDULE, and writes `OUT.log`, `OUT.released`, `OUT.wire`, `OUT.ram` and `OUT.disk`.
 /// - `splice LOG SINGLE` writes the single run that LOG names to the file SINGLE.
-/// - `image NAME OUT` writes a demo image to the file OUT; NAME is `mute`, `echo`, `clocked` or `disk_log`.
+/// - `image NAME OUT` writes a demo image to the file OUT; NAME is `mute`, `echo`, `clocked` or
+///   `disk_log`.
 ///
 /// | Status | Comes | Printed |
 /// |---|---|---|
@@ -40,8 +41,8 @@ use std::alloc::Global;
 ///
 /// Options follow the other words: `--ram N` for N MiB of memory, 1 to 64, in the place of 16.
 ///
-/// The tests stand in the order 1, 6, 2, 3, 5, 4, 9. Before the files are created nothing changes. A put
-/// that fails is the last. Only a command that is online uses the link and the clock, and there is
+/// The tests stand in the order 1, 6, 2, 3, 5, 4, 9. Before the files are created nothing changes.
+/// A put that fails is the last. Only a command that is online uses the link and the clock, and there is
 /// none yet.
 pub fn colo<S: Shelf, L: Link, K: Clock, O: Sink>(
     alloc: Global,

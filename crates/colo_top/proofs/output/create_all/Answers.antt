@@ -12,7 +12,8 @@ returns-in_err-create_one-clause-err g c =
     let p = err_from_is_err_and c.from_residual.result c.from_residual.ensures.1 in
     rw p.1 (create_keeps (g.S.Shelf.state c.args.shelf.now) (g.S.Shelf.state c.loop-output.shelf)
     (g.S.Shelf.state c.create_one.new.shelf) c.args.out.now c.args.outputs.now c.loop-output.output-index
-    (omega arith) _ c.loop-output.invariant c.create_one.ensures.only c.create_one.ensures.fetches c.in_err-create_one.ensures.err)
+    (omega arith) _ c.loop-output.invariant c.create_one.ensures.only c.create_one.ensures.fetches
+    c.in_err-create_one.ensures.err)
 
 pub returns-in_err-create_one-clause-change : goal.returns-in_err-create_one-clause-change
 returns-in_err-create_one-clause-change g c =
@@ -32,7 +33,8 @@ pub loop-output-preserved : goal.loop-output-preserved
 loop-output-preserved g c =
     created_next (g.S.Shelf.state c.args.shelf.now) (g.S.Shelf.state c.loop-output.shelf)
     (g.S.Shelf.state c.create_one.new.shelf) c.args.out.now c.args.outputs.now c.loop-output.output-index
-    (omega arith) _ c.loop-output.invariant c.create_one.ensures.only c.create_one.ensures.fetches c.in_ok-create_one.ensures.ok c.in_ok-create_one.ensures.counts
+    (omega arith) _ c.loop-output.invariant c.create_one.ensures.only c.create_one.ensures.fetches
+    c.in_ok-create_one.ensures.ok c.in_ok-create_one.ensures.counts
 
 pub returns-clause-ok : goal.returns-clause-ok
 returns-clause-ok g c = created_all (g.S.Shelf.state c.args.shelf.now)

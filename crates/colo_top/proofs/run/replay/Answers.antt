@@ -24,7 +24,8 @@ returns-in_err-turns-clause-fails g c =
     (refused w (g.S.Shelf.state c.args.shelf.now) (g.S.Shelf.state c.read_all.new.shelf) t c.in-Ok.ensures.read
     c.read_all.ensures.files c.read_all.ensures.writes c.in-Ok.ensures.counts fault
     (fails_second (TestStart w.mib t) (TestSchedule t.lines) fault
-    (start_none w.mib t (machine_meaning c.in_ok-started.started.machine) c.in_ok-started.started.frames c.in_ok-started.ensures.ready)
+    (start_none w.mib t (machine_meaning c.in_ok-started.started.machine) c.in_ok-started.started.frames
+    c.in_ok-started.ensures.ready)
     (subst Lines c.deref.ensures.value c.in_err-turns.ensures.refused)))
 
 pub returns-clause-done : goal.returns-clause-done
@@ -33,7 +34,8 @@ returns-clause-done g c =
     let Turns : List Turn → Type 0 = λ turns. IsTurnSchedule turns c.in-Ok.inputs.lines.items in
     replay_done (run_of c.args.words.now) (g.S.Shelf.state c.args.shelf.now)
     (g.S.Shelf.state c.read_all.new.shelf)
-    (texts_of c.in-Ok.inputs) c.in-Ok.ensures.read c.read_all.ensures.files c.read_all.ensures.writes c.in-Ok.ensures.counts
+    (texts_of c.in-Ok.inputs) c.in-Ok.ensures.read c.read_all.ensures.files
+    c.read_all.ensures.writes c.in-Ok.ensures.counts
     (machine_meaning c.in_ok-started.started.machine) c.in_ok-started.started.frames c.in_ok-started.ensures.ready
     c.deref-2.result.now
     (subst Turns (sym c.deref-2.ensures.value) (subst Lines c.deref.ensures.value c.in_ok-turns.ensures.turns))
@@ -46,7 +48,8 @@ returns-clause-fails g c =
     let Turns : List Turn → Type 0 = λ turns. IsTurnSchedule turns c.in-Ok.inputs.lines.items in
     replay_fails (run_of c.args.words.now) (g.S.Shelf.state c.args.shelf.now)
     (g.S.Shelf.state c.read_all.new.shelf)
-    (texts_of c.in-Ok.inputs) c.in-Ok.ensures.read c.read_all.ensures.files c.read_all.ensures.writes c.in-Ok.ensures.counts
+    (texts_of c.in-Ok.inputs) c.in-Ok.ensures.read c.read_all.ensures.files
+    c.read_all.ensures.writes c.in-Ok.ensures.counts
     (machine_meaning c.in_ok-started.started.machine) c.in_ok-started.started.frames c.in_ok-started.ensures.ready
     c.deref-2.result.now
     (subst Turns (sym c.deref-2.ensures.value) (subst Lines c.deref.ensures.value c.in_ok-turns.ensures.turns))

@@ -1,5 +1,5 @@
 -- The files are created, the turns made and logged, and memory and disk written.
-use Rattle.std.proofs.Common.{List, ℕ, sym, ◌∙◌, subst, ap, Err, inr}
+use Rattle.std.proofs.Common.{sym, ◌∙◌, subst, ap, Err, inr}
 use Rattle.std.proofs.lemmas.Result.{err_from_is_err_and}
 use Rattle.colo_top.specs.declared.fault.Fault.{Fault}
 use Rattle.colo_top.specs.Command.{replay_outputs}

@@ -1,6 +1,5 @@
 -- The event's text is what is appended.
-use Rattle.std.proofs.Common.{List, ℕ, sym, ◌∙◌, subst, ap, Err, inl, refl}
-use Rattle.std.proofs.lemmas.Result.{err_from_is_err_and}
+use Rattle.std.proofs.Common.{List, ℕ, sym, ◌∙◌, subst, ap, Err}
 use Rattle.colo_top.specs.declared.fault.Fault.{Fault}
 use Rattle.colo_top.specs.declared.output.Output.TheVariants.{Log}
 use Rattle.colo_top.specs.Command.{replay_outputs}

@@ -10,7 +10,8 @@ pub returns-in_err-append_to-clause-err : goal.returns-in_err-append_to-clause-e
 returns-in_err-append_to-clause-err g c =
     let p = err_from_is_err_and c.from_residual.result c.from_residual.ensures.1 in
     rw p.1 (last_first_part (g.S.Shelf.state c.args.shelf.now)
-    (g.S.Shelf.state c.append_to.new.shelf) c.args.out.now c.args.ram.now c.args.disk.now c.in_err-append_to.ensures.err)
+    (g.S.Shelf.state c.append_to.new.shelf) c.args.out.now c.args.ram.now c.args.disk.now
+    c.in_err-append_to.ensures.err)
 
 pub returns-in_err-append_to-clause-change : goal.returns-in_err-append_to-clause-change
 returns-in_err-append_to-clause-change g c = writes_one c.args.out.now replay_outputs
@@ -26,13 +27,15 @@ pub returns-clause-ok : goal.returns-clause-ok
 returns-clause-ok g c =
     on_ok _ _ c.append_to-2.result c.append_to-2.ensures.ok (last_both (g.S.Shelf.state c.args.shelf.now)
     (g.S.Shelf.state c.append_to.new.shelf)
-    (g.S.Shelf.state c.append_to-2.new.shelf) c.args.out.now c.args.ram.now c.args.disk.now c.in_ok-append_to.ensures.ok)
+    (g.S.Shelf.state c.append_to-2.new.shelf) c.args.out.now c.args.ram.now c.args.disk.now
+    c.in_ok-append_to.ensures.ok)
 
 pub returns-clause-err : goal.returns-clause-err
 returns-clause-err g c =
     on_err _ _ c.append_to-2.result c.append_to-2.ensures.err (last_second_part (g.S.Shelf.state c.args.shelf.now)
     (g.S.Shelf.state c.append_to.new.shelf)
-    (g.S.Shelf.state c.append_to-2.new.shelf) c.args.out.now c.args.ram.now c.args.disk.now c.in_ok-append_to.ensures.ok)
+    (g.S.Shelf.state c.append_to-2.new.shelf) c.args.out.now c.args.ram.now c.args.disk.now
+    c.in_ok-append_to.ensures.ok)
 
 pub returns-clause-change : goal.returns-clause-change
 returns-clause-change g c =

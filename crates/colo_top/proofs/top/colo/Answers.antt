@@ -45,4 +45,5 @@ returns-in-Err-clause-ends g c =
       };
       status = c.put_fault.result;
     } in
-    ends_failed call c.in-Err.fault c.in-Err.ensures.fails c.put_fault.ensures.status c.put_fault.ensures.line c.put_fault.ensures.goes_on
+    ends_failed call c.in-Err.fault c.in-Err.ensures.fails c.put_fault.ensures.status c.put_fault.ensures.line
+    c.put_fault.ensures.goes_on
