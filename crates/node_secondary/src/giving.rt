@@ -1,0 +1,87 @@
+//! The frame that a guest is given.
+
+ghost use Rattle.std.specs.Prelude.{◌≡◌, IsSome, IfSome};
+ghost use Rattle.std.specs.Option.{ForSome, option_copied, option_map};
+ghost use Rattle.inet_frame.specs.Counted.{tcp_in};
+ghost use Rattle.tcp_track.specs.Tracking.{current_at};
+ghost use Rattle.state_wire.specs.Guest.{IsFrame};
+ghost use Rattle.node_secondary.specs.Node.{AreSegments};
+ghost use Rattle.node_secondary.specs.Turns.{current_for, given_frame, left_frames, taken_frame};
+
+use frame_mirror::{Inbox, Waiting};
+use inet_frame::{Seen, Tuple, parse};
+use seq_rewriter::inward;
+use tcp_track::{Opening, Tracker};
+
+/// A client frame as a guest is given it.
+#[derive(Drop)]
+pub struct Given {
+    /// Its index in the client stream.
+    pub index: u64,
+    /// Its bytes.
+    pub frame: Vec<u8>,
+}
+
+/// The current opening of a tuple.
+fn current_at(lines: &Tracker, tuple: &Tuple) -> Option<Opening>
+    ensures { result ≡ current_at lines.now tuple.now }
+{
+    let line = lines.line(tuple)?;
+    line.opening
+}
+
+/// The guest's current opening of the connection of a client's frame.
+fn current_for(lines: &Tracker, frame: &[u8]) -> Option<Opening>
+    ensures { result ≡ current_for lines.now (tcp_in frame.now) }
+{
+    match parse(frame) {
+        Seen::Tcp(view) => current_at(lines, &view.client_tuple()),
+        Seen::Arp(_) | Seen::Udp(_) | Seen::Other(_) => None,
+    }
+}
+
+/// The bytes of a waiting frame as the guest's own numbering wants them. It takes no memory.
+fn given_frame(lines: &Tracker, waiting: Waiting) -> Vec<u8>
+    requires { IsSome (tcp_in waiting.frame) }
+    ensures bytes { result.items ≡ given_frame lines.now waiting }
+    ensures still_tcp { IsSome (tcp_in result.items) }
+{
+    let mut frame = waiting.frame.into_vec();
+    let current = current_for(lines, &frame);
+    inward(frame.as_mut_slice(), waiting.seen, current);
+    frame
+}
+
+/// Takes the oldest frame that waits, if one is wanted, as the guest is given it. It takes no
+/// memory.
+pub fn take_frame(wants: bool, lines: &Tracker, inbox: &mut Inbox) -> Option<Given>
+    requires { AreSegments inbox.old }
+    ensures given { option_map (λ g. g.frame.items) result
+        ≡ option_map (given_frame lines.now) (taken_frame wants inbox.old) }
+    ensures index { option_map (λ g. g.index) result
+        ≡ option_map (λ w. w.index) (taken_frame wants inbox.old) }
+    ensures left { inbox.new ≡ left_frames wants inbox.old }
+    ensures still_segments { AreSegments inbox.new }
+    ensures still_tcp { IfSome result (λ g. IsSome (tcp_in g.frame.items)) }
+{
+    if !wants {
+        return None;
+    }
+    let waiting = inbox.take()?;
+    let index = waiting.index;
+    Some(Given {
+        index,
+        frame: given_frame(lines, waiting),
+    })
+}
+
+/// The bytes of a given frame, if there is one.
+#[tactic(auto, using(crate::proofs::TurnLemmas::frame_fits))]
+pub fn bytes_of(given: &Option<Given>) -> Option<&[u8]>
+    requires { IfSome given.now (λ g. IsSome (tcp_in g.frame.items)) }
+    ensures bytes { option_copied result ≡ option_map (λ g. g.frame.items) given.now }
+    ensures frame { ForSome result (λ bytes. IsFrame bytes.now) }
+{
+    let given = given.as_ref()?;
+    Some(given.frame.as_slice())
+}
