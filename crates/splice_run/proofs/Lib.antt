@@ -1,4 +1,9 @@
 pub mod BackLemmas
 pub mod FrameLemmas
+pub mod GivenLemmas
+pub mod LimitLemmas
+pub mod ListLemmas
 pub mod MarkLemmas
+pub mod OpeningLemmas
 pub mod RunLemmas
+pub mod SoloLemmas

@@ -4,3 +4,5 @@ pub mod Frames
 pub mod Single
 pub mod Backwards
 pub mod Runs
+pub mod Solo
+pub mod Openings

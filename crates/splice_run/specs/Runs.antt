@@ -1,6 +1,6 @@
 -- The run of a machine through the turns of a single run: a left fold over its state and the frames
--- that it has sent. Each turn is given the frame of the client stream that it names, clean, and with
--- the acknowledgement raised by what its client had seen.
+-- that it has sent. Each turn is given the frame of the client stream that it names, clean, and
+-- with the acknowledgement raised by what its client had seen.
 use Rattle.std.specs.Prelude.{ℕ, Bool, List, [], fold, slice_get, unwrap_or, is_some, Option, None, Some}
 use Rattle.std.specs.Option.{option_map}
 use Rattle.frame_mirror.specs.Accepted.{entry_of}
@@ -61,7 +61,7 @@ unfoldable pub given_to : List (List ℕ) → List TcpFields → TurnFrame → O
 unfolding given_frame clean_syn clean_options options_of raise_frame shift_ack update_checksum
     overwrite seen_of opening_of may_open
 given_to stream said f =
-    option_map (λ index. given_frame (stream_frame stream index) (frame_seen f) said) (frame_index f)
+    option_map (λ i. given_frame (stream_frame stream i) (frame_seen f) said) (frame_index f)
 
 abbrev pub given_turn : List (List ℕ) → List TcpFields → Turn → GuestTurn
 given_turn stream said t = turn_of t.d (given_to stream said t.frame) t.b t.n

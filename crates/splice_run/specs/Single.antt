@@ -1,5 +1,5 @@
--- The single run that a log names, read from its lines, answers and marks alone: by the positions of
--- its marks, and as a fold. The two are one.
+-- The single run that a log names, read from its lines, answers and marks alone: by the positions
+-- of its marks, and as a fold. The two are one.
 use Rattle.std.specs.Prelude.{ℕ, ◌==◌, if◌then◌else◌, Option, Some, None, List, [], ◌∷◌, ◌++◌, map, find, fold, reverse}
 use Rattle.replay_log.specs.declared.records.Record.{Record}
 use Rattle.replay_log.specs.declared.turns.Turn.{Turn}

@@ -1,13 +1,18 @@
-//! The single run that a log names, and the run of turns with given frames.
+//! The single run that a log names, and the machine that makes it again.
 #![tactic(auto)]
 
 mod law;
+mod openings;
 mod parts;
 mod seen;
+mod solo_run;
 mod splicing;
 
-pub use law::{single_run_is_spelled, splices_by_marks};
+pub use law::{single_run_is_in_limits, single_run_is_spelled, splices_by_marks};
+pub use solo_run::{SoloFault, solo};
 pub use splicing::splice;
 
+#[cfg(test)]
+mod solo_tests;
 #[cfg(test)]
 mod tests;

@@ -15,8 +15,10 @@ loop-end-init c =
     let log = c.args.log.now in
     let part : c.if-has_primary_stop.part ≡ last_part (has_primary_stop log) =
     elim c.if-has_primary_stop.branch [
-      | then-has_primary_stop w ↦ w.part-is ∙ sym (ap last_part (sym c.has_primary_stop.ensures ∙ w.if-has_primary_stop.true))
-      | else-has_primary_stop w ↦ w.part-is ∙ sym (ap last_part (sym c.has_primary_stop.ensures ∙ w.if-has_primary_stop.false))
+      | then-has_primary_stop w ↦ w.part-is
+          ∙ sym (ap last_part (sym c.has_primary_stop.ensures ∙ w.if-has_primary_stop.true))
+      | else-has_primary_stop w ↦ w.part-is
+          ∙ sym (ap last_part (sym c.has_primary_stop.ensures ∙ w.if-has_primary_stop.false))
     ] in
     record {
       within = omega arith;
