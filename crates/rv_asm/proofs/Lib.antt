@@ -1,3 +1,4 @@
+pub mod BadLineLemmas
 pub mod ByteLemmas
 pub mod FoundLemmas
 pub mod LabelLemmas

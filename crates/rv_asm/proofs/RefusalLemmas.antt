@@ -28,7 +28,7 @@ use Rattle.rv_asm.proofs.OnlyLemmas.{register_only, signed_only, operand_only, s
 abbrev pub Tells : {A : Type 0} → Result A Why → (Why → Type 0) → Type 0
 Tells r P = (why : Why) → (r ≡ Err why → P why) × (P why → r ≡ Err why)
 
-err_is : {A : Type 0} (why other : Why) → failed {A = A} why ≡ Err other → other ≡ why
+pub err_is : {A : Type 0} (why other : Why) → failed {A = A} why ≡ Err other → other ≡ why
 err_is why other e = cc
 
 lifted : {A B : Type 0} (r : Result A Why) (f : A → B) (P : Why → Type 0) → Tells r P → Tells (r >>= λ x. Ok (f x)) P

@@ -1,5 +1,7 @@
--- Which statements are refused, and for what: the fault of the earliest place that has one.
-use Rattle.std.specs.Prelude.{◌≡◌, ◌≢◌, ℕ, ◌%◌, ◌^◌, ◌-◌, ◌<◌, ◌≤◌, ◌⊎◌, ℤ, List, [], ◌∷◌, Option, Some, None, Ok, Err, IsTrue, IsFalse, MatchOption, codes, if◌then◌else◌, option_map}
+-- Which statements are refused, and which lines, and for what: the fault of the earliest place that
+-- has one.
+use Rattle.std.specs.Prelude.{◌≡◌, ◌≢◌, ℕ, ◌+◌, ◌%◌, ◌^◌, ◌-◌, ◌<◌, ◌≤◌, ◌⊎◌, ℤ, List, [], ◌∷◌, Option, Some, None, Ok, Err, IsTrue, IsFalse, MatchOption, codes, if◌then◌else◌, option_map, slice_get, take}
+use Rattle.std.specs.List.{sum_by}
 use Rattle.std.specs.Str.{bytes_eq}
 use Rattle.shared_definitions.specs.Ascii.{comma, space, left_parenthesis, right_parenthesis}
 use Rattle.ascii_text.specs.declared.numbers.NumberFault.TheVariants.{NoNumber, TooLarge}
@@ -13,7 +15,9 @@ use Rattle.rv_asm.specs.declared.fault.Why.{Why}
 use Rattle.rv_asm.specs.declared.fault.Why.TheVariants.{Word, Register, Range, Label}
 use Rattle.rv_asm.specs.declared.reading.Number.{Number}
 use Rattle.rv_asm.specs.Grammar.{IsLabelOf, IsSignedText, IsOperandText}
+use Rattle.rv_asm.specs.Lines.{line_of, place_of, word_count, words_at}
 use Rattle.rv_asm.specs.Operands.{distance, address}
+use Rattle.rv_asm.specs.Program.{Bad}
 use Rattle.rv_asm.specs.Reading.{number_within, register_of, is_label}
 
 -- at a register's place: no register, be it of a label's form or not
@@ -123,3 +127,40 @@ abbrev pub Stops : (List ℕ → Option ℕ) → ℕ → List ℕ → Why → Ty
 Stops places here text why =
     MatchOption (kinds_named (cut space text).before) (why ≡ Word)
     (λ kinds. OperandsStop places here kinds (cut space text).after why)
+
+-- ---- lines, which are counted from 0 here
+
+-- the line at this index gives this label
+abbrev pub GivesLabel : List (List ℕ) → ℕ → List ℕ → Type 0
+GivesLabel lines index name =
+    (text : List ℕ) × (slice_get lines index ≡ Some text) × ((line_of text).label ≡ Some name)
+
+-- it gives a label that an earlier line gives too
+abbrev pub RepeatsLabel : List (List ℕ) → ℕ → Type 0
+RepeatsLabel lines index =
+    (name : List ℕ) × (earlier : ℕ) × GivesLabel lines index name × (earlier < index)
+    × GivesLabel lines earlier name
+
+-- how many words stand before it
+abbrev pub words_before : List (List ℕ) → ℕ → ℕ
+words_before lines index = sum_by (λ text. word_count (line_of text).statement) (take index lines)
+
+-- it has a statement, which stops for this; a label's place is that of the first line that gives it
+abbrev pub StatementStops : List (List ℕ) → ℕ → Why → Type 0
+StatementStops lines index why =
+    (text : List ℕ) × (statement : List ℕ) × (slice_get lines index ≡ Some text)
+    × ((line_of text).statement ≡ Some statement)
+    × Stops (words_at (place_of lines)) (words_before lines index) statement why
+
+-- it is bad for its label, which comes first, or else for its statement
+abbrev pub IsBadLine : List (List ℕ) → ℕ → Why → Type 0
+IsBadLine lines index why =
+    (RepeatsLabel lines index × (why ≡ Label))
+    ⊎ (¬ RepeatsLabel lines index × StatementStops lines index why)
+
+-- a line is bad for this, and no earlier one is bad
+pub record IsFirstBad (lines : List (List ℕ)) (bad : Bad) : Type 0 where
+  pub index : ℕ
+  pub line : bad.line ≡ index + 1
+  pub is_bad : IsBadLine lines index bad.why
+  pub none_before : (earlier : ℕ) (why : Why) → earlier < index → ¬ IsBadLine lines earlier why

@@ -6,7 +6,8 @@ ghost use Rattle.rv_isa.specs.Words.{unsigned, word_of};
 ghost use Rattle.rv_isa.specs.declared.instr.Instr.TheVariants.{Lui, Addi};
 ghost use Rattle.rv_asm.specs.declared.fault.Why.{Why};
 ghost use Rattle.rv_asm.specs.Grammar.{IsStatement};
-ghost use Rattle.rv_asm.specs.Refusals.{Stops};
+ghost use Rattle.rv_asm.specs.Program.{Bad, program};
+ghost use Rattle.rv_asm.specs.Refusals.{IsFirstBad, Stops};
 ghost use Rattle.rv_asm.specs.Statements.{statement, upper_part, lower_part};
 
 /// A text stands by the grammar for exactly the words that reading it from left to right gives.
@@ -27,6 +28,15 @@ pub fn refusals_are_at_their_place()
         ↔ ((words : List ℕ) → ¬ IsStatement places here text words) }
     ensures first { (places : List ℕ → Option ℕ) (here : ℕ) (text : List ℕ) (why : Why)
         → (statement places here text ≡ Err why) ↔ Stops places here text why }
+{}
+
+/// A text's lines are refused exactly where one of them is bad, and for the first bad one: a line
+/// whose label an earlier line gives (`Label`, whatever follows the label), or else one whose
+/// statement is refused. So of two lines that give a label the second is bad, and the first isn't
+/// for that.
+pub fn first_bad_line_is_refused()
+    ensures { (lines : List (List ℕ)) (bad : Bad)
+        → (program lines ≡ Err bad) ↔ IsFirstBad lines bad }
 {}
 
 /// The words of `li` are LUI and ADDI to the register, and what LUI puts there and the
