@@ -1,7 +1,7 @@
 #!/bin/sh
-# Times `encode` and `decode` of colo_wire for a State of 1 MiB and for a Page, beside a copy of as many bytes: each should take about
-# as long as a copy. The program stands in a folder of its own that is made and removed here, since it is no part of the repository; the
-# first run proves it, and takes some minutes where the crates below it are not proved yet.
+# Times `decode` and `encode` of colo_wire for a State of 1 MiB and for a Page, beside a copy of as many bytes, which is what each
+# should take. The program stands in a folder of its own that is made and removed here, since it is no part of the repository; the first run
+# proves it, and takes some minutes where the crates below it are not proved yet.
 set -eu
 . "$(dirname "$0")/scratch.sh"
 scratch time_messages anyhow colo_wire
@@ -10,7 +10,7 @@ cat > src/main.rt <<'MAIN'
 #![tactic(auto)]
 
 use anyhow::Result;
-use colo_wire::{WireFault, decode, encode};
+use colo_wire::{decode, encode};
 use std::rt::Clock;
 use std::time::Instant;
 
@@ -25,55 +25,51 @@ fn message_of(rt: &impl AllocGlobal, kind: u8, len: u32) -> Result<Vec<u8>> {
     Ok(bytes)
 }
 
-/// Copies so many times, and gives the microseconds.
-fn time_copies(rt: &(impl AllocGlobal + Clock), bytes: &[u8], times: u32) -> Result<u128> {
-    let mut total = 0usize;
-    let start = Instant::now(rt)?;
-    for _ in 0..times {
-        let copy = bytes.to_vec(rt.alloc())?;
-        total = total.wrapping_add(copy.len());
-    }
-    let took = start.elapsed(rt)?.as_micros();
-    if total == 1 { Ok(0) } else { Ok(took) }
+/// A copy of the bytes, and its length.
+fn copy(rt: &impl AllocGlobal, bytes: &[u8]) -> Result<usize> {
+    Ok(bytes.to_vec(rt.alloc())?.len())
 }
 
-/// Reads the message so many times, and gives the microseconds.
-fn time_decode(rt: &(impl AllocGlobal + Clock), bytes: &[u8], times: u32) -> Result<u128> {
-    let mut total = 0usize;
-    let start = Instant::now(rt)?;
-    for _ in 0..times {
-        if let Ok((_, size)) = decode(rt.alloc(), bytes) {
-            total = total.wrapping_add(size);
-        }
+/// Reads the message, and gives its size.
+fn read(rt: &impl AllocGlobal, bytes: &[u8]) -> usize {
+    match decode(rt.alloc(), bytes) {
+        Ok((_, size)) => size,
+        Err(_) => 0,
     }
-    let took = start.elapsed(rt)?.as_micros();
-    if total == 1 { Ok(0) } else { Ok(took) }
 }
 
-/// Writes the message so many times, and gives the microseconds.
-fn time_encode(rt: &(impl AllocGlobal + Clock), bytes: &[u8], times: u32) -> Result<u128> {
-    let message = match decode(rt.alloc(), bytes) {
-        Ok((message, _)) => message,
-        Err(WireFault::NoMemory) => return Ok(0),
-        Err(_) => return Ok(1),
+/// Reads the message and writes it again, and gives its length.
+fn read_and_write(rt: &impl AllocGlobal, bytes: &[u8]) -> usize {
+    let Ok((message, _)) = decode(rt.alloc(), bytes) else {
+        return 0;
     };
-    let start = Instant::now(rt)?;
-    for _ in 0..times {
-        let mut out = Vec::new(rt.alloc());
-        if encode(&message, &mut out).is_err() {
-            return Ok(0);
-        }
+    let mut out = Vec::new(rt.alloc());
+    match encode(&message, &mut out) {
+        Ok(()) => out.len(),
+        Err(_) => 0,
     }
-    Ok(start.elapsed(rt)?.as_micros())
 }
 
 /// Times a message of this kind and length.
 fn time(rt: &(impl AllocGlobal + Clock + Print), kind: u8, len: u32, times: u32) -> Result<()> {
     let bytes = message_of(rt, kind, len)?;
-    let copy = time_copies(rt, &bytes, times)?;
-    let read = time_decode(rt, &bytes, times)?;
-    let wrote = time_encode(rt, &bytes, times)?;
-    println!(rt; "kind {kind}, {len} bytes, {times} times: copy {copy}, decode {read}, encode {wrote} microseconds")?;
+    let mut total = 0usize;
+    let start = Instant::now(rt)?;
+    for _ in 0..times {
+        total = total.wrapping_add(copy(rt, &bytes)?);
+    }
+    let copied = start.elapsed(rt)?.as_micros();
+    let start = Instant::now(rt)?;
+    for _ in 0..times {
+        total = total.wrapping_add(read(rt, &bytes));
+    }
+    let was_read = start.elapsed(rt)?.as_micros();
+    let start = Instant::now(rt)?;
+    for _ in 0..times {
+        total = total.wrapping_add(read_and_write(rt, &bytes));
+    }
+    let both = start.elapsed(rt)?.as_micros();
+    println!(rt; "kind {kind}, {len} bytes, {times} times: copy {copied}, decode {was_read}, decode and encode {both} microseconds, {total} bytes")?;
     Ok(())
 }
 

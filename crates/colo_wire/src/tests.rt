@@ -1,14 +1,15 @@
 //! Worked examples: each kind once, both ways, and bytes that are no message.
 
-use crate::{Contents, Message, WireFault, decode, encode};
+use crate::{Message, WireFault, decode, encode};
 use inet_frame::Tuple;
 use std::alloc::{AllocError, Global};
 use std::test::Fail;
 
-const ACK: [u8; 9] = [0x0E, 0, 0, 0, 4, 0, 0, 0, 1];
-
-const NUMBER: [u8; 21] = [
-    0x02, 0, 0, 0, 0x10, 0x0A, 0, 2, 2, 0x9C, 0x40, 0, 7, 0, 0, 3, 0xE8, 0, 0, 0x13, 0x88,
+/// The acknowledgement of checkpoint 1, and after it the primary's number 5000 for the connection
+/// of 10.0.2.2, port 40000, to port 7 that its client opened with 1000.
+const SPELLINGS: [u8; 30] = [
+    0x0E, 0, 0, 0, 4, 0, 0, 0, 1, 0x02, 0, 0, 0, 0x10, 0x0A, 0, 2, 2, 0x9C, 0x40, 0, 7, 0, 0, 3,
+    0xE8, 0, 0, 0x13, 0x88,
 ];
 
 /// What stands before a waiting frame: index 5, an opening of client 1000 under 5000, trim 4.
@@ -19,6 +20,11 @@ const SEEN: &[u8] = &[
 /// The same where no opening was seen.
 const UNSEEN: &[u8] = &[
     0, 0, 0, 0, 0, 0, 0, 5, 0, 0, 0, 0, 0, 0, 0, 0, 0, 0, 0, 0, 0,
+];
+
+/// A tuple and two numbers.
+const NUMBERS: &[u8] = &[
+    0x0A, 0, 2, 2, 0x9C, 0x40, 0, 7, 0, 0, 3, 0xE8, 0, 0, 0x13, 0x88,
 ];
 
 /// A line with every field.
@@ -33,35 +39,87 @@ const CLOSED: &[u8] = &[
     0, 0, 0, 0, 0, 0, 0, 0, 0, 0, 0, 0, 0, 0, 0, 0, 0,
 ];
 
-/// Lengths that the kinds don't allow, each one off or in between.
-const BAD_LENGTHS: [(u8, u32); 27] = [
-    (1, 34),
-    (1, 1536),
-    (2, 15),
-    (2, 17),
-    (3, 3),
-    (3, 5),
-    (4, 16_777_217),
-    (4, 0xFFFF_FFFF),
-    (5, 4099),
-    (5, 4101),
-    (6, 4),
-    (6, 515),
-    (6, 517),
-    (6, 66_052),
-    (7, 515),
-    (7, 517),
-    (8, 34),
-    (8, 1536),
-    (9, 42),
-    (9, 44),
-    (10, 0),
-    (10, 65_537),
-    (11, 5),
-    (12, 17),
-    (13, 13),
-    (13, 1515),
-    (14, 3),
+/// Each kind, and those of which something may be left out a second time: the kind, the front of
+/// the body, and how many bytes follow.
+const MESSAGES: [(u8, &[u8], usize); 16] = [
+    (1, SEEN, 14),
+    (2, NUMBERS, 0),
+    (3, &[0, 0, 0, 1], 0),
+    (4, &[], 11),
+    (4, &[], 0),
+    (5, &[0, 0, 0, 9], 4096),
+    (6, &[0, 0, 0, 0x80], 1024),
+    (7, &[0xFF, 0xFF, 0xFF, 0xFF], 512),
+    (8, UNSEEN, 1514),
+    (9, LINE, 0),
+    (9, CLOSED, 0),
+    (10, &[], 1),
+    (11, &[0, 0, 0, 1], 0),
+    (12, NUMBERS, 0),
+    (13, &[], 14),
+    (14, &[0, 0, 0, 1], 0),
+];
+
+/// The first bytes of what is no message, and why: a kind; a length that the kind doesn't allow,
+/// each one off or in between; has-seen, a field that must be 0, and the flags of a line.
+const OTHERS: [(&[u8], WireFault); 36] = [
+    (&[0], WireFault::Kind),
+    (&[15], WireFault::Kind),
+    (&[255], WireFault::Kind),
+    (&[2, 1], WireFault::Length),
+    (&[1, 0, 0, 0, 34], WireFault::Length),
+    (&[1, 0, 0, 6, 0], WireFault::Length),
+    (&[2, 0, 0, 0, 15], WireFault::Length),
+    (&[2, 0, 0, 0, 17], WireFault::Length),
+    (&[3, 0, 0, 0, 3], WireFault::Length),
+    (&[3, 0, 0, 0, 5], WireFault::Length),
+    (&[4, 1, 0, 0, 1], WireFault::Length),
+    (&[4, 0xFF, 0xFF, 0xFF, 0xFF], WireFault::Length),
+    (&[5, 0, 0, 0x10, 3], WireFault::Length),
+    (&[5, 0, 0, 0x10, 5], WireFault::Length),
+    (&[6, 0, 0, 0, 4], WireFault::Length),
+    (&[6, 0, 0, 2, 3], WireFault::Length),
+    (&[6, 0, 0, 2, 5], WireFault::Length),
+    (&[6, 0, 1, 2, 4], WireFault::Length),
+    (&[7, 0, 0, 2, 3], WireFault::Length),
+    (&[7, 0, 0, 2, 5], WireFault::Length),
+    (&[8, 0, 0, 0, 34], WireFault::Length),
+    (&[8, 0, 0, 6, 0], WireFault::Length),
+    (&[9, 0, 0, 0, 42], WireFault::Length),
+    (&[9, 0, 0, 0, 44], WireFault::Length),
+    (&[10, 0, 0, 0, 0], WireFault::Length),
+    (&[10, 0, 1, 0, 1], WireFault::Length),
+    (&[11, 0, 0, 0, 5], WireFault::Length),
+    (&[12, 0, 0, 0, 17], WireFault::Length),
+    (&[13, 0, 0, 0, 13], WireFault::Length),
+    (&[13, 0, 0, 5, 0xEB], WireFault::Length),
+    (&[14, 0, 0, 0, 3], WireFault::Length),
+    (
+        &[1, 0, 0, 0, 35, 0, 0, 0, 0, 0, 0, 0, 5, 2],
+        WireFault::Field,
+    ),
+    (
+        &[1, 0, 0, 0, 35, 0, 0, 0, 0, 0, 0, 0, 5, 0, 1],
+        WireFault::Field,
+    ),
+    (
+        &[
+            9, 0, 0, 0, 43, 10, 0, 2, 2, 0x9C, 0x40, 0, 7, 0x52, 0x54, 0, 0xAA, 0, 1, 16,
+        ],
+        WireFault::Field,
+    ),
+    (
+        &[
+            9, 0, 0, 0, 43, 10, 0, 2, 2, 0x9C, 0x40, 0, 7, 0x52, 0x54, 0, 0xAA, 0, 1, 8,
+        ],
+        WireFault::Field,
+    ),
+    (
+        &[
+            9, 0, 0, 0, 43, 10, 0, 2, 2, 0x9C, 0x40, 0, 7, 0x52, 0x54, 0, 0xAA, 0, 1, 2,
+        ],
+        WireFault::Field,
+    ),
 ];
 
 /// A message: its kind, the length of its body, the body's front, and bytes `a`.
@@ -88,63 +146,16 @@ fn is_read_and_written(alloc: Global, bytes: &[u8]) -> Result<bool, Fail> {
     Ok(size == bytes.len() && out.as_slice() == bytes)
 }
 
-/// Whether each proper prefix is the beginning of a message.
-fn begins(alloc: Global, bytes: &[u8]) -> bool {
-    (0..bytes.len()).all(|n| matches!(decode(alloc, &bytes[..n]), Err(WireFault::More)))
-}
-
-/// Whether such a message is read and written, and each of its prefixes is the beginning of one.
-fn is_message(alloc: Global, kind: u8, front: &[u8], fill: usize) -> Result<bool, Fail> {
-    let bytes = spelled(alloc, kind, front, fill)?;
-    Ok(is_read_and_written(alloc, &bytes)? && begins(alloc, &bytes))
-}
-
-/// Whether the length is refused as soon as it came.
-fn is_bad_length(alloc: Global, kind: u8, len: u32) -> bool {
-    let [a, b, c, d] = len.to_be_bytes();
-    matches!(decode(alloc, &[kind, a, b, c, d]), Err(WireFault::Length))
-}
-
-/// Whether the body is refused for this byte at this place, and as soon as it came.
-fn is_bad_field(alloc: Global, kind: u8, front: &[u8], at: usize, byte: u8) -> Result<bool, Fail> {
-    let fill = if kind == 9 { 0 } else { 14 };
-    let mut bytes = spelled(alloc, kind, front, fill)?;
-    if let Some(place) = bytes.get_mut(at.saturating_add(5)) {
-        *place = byte;
-    }
-    let whole = matches!(decode(alloc, &bytes), Err(WireFault::Field));
-    bytes.truncate(at.saturating_add(6));
-    Ok(whole && matches!(decode(alloc, &bytes), Err(WireFault::Field)))
-}
-
 #[test]
-fn frames_and_numbers(rt: HostRuntime) -> Result<(), Fail> {
-    let number = &NUMBER[5..];
-    assert!(rt; is_message(rt.alloc(), 1, SEEN, 14)?);
-    assert!(rt; is_message(rt.alloc(), 8, UNSEEN, 1514)?);
-    assert!(rt; is_message(rt.alloc(), 13, &[], 14)?);
-    assert!(rt; is_message(rt.alloc(), 2, number, 0)?);
-    assert!(rt; is_message(rt.alloc(), 12, number, 0)?);
-    Ok(())
-}
-
-#[test]
-fn states_and_parts(rt: HostRuntime) -> Result<(), Fail> {
-    assert!(rt; is_message(rt.alloc(), 4, &[], 11)?);
-    assert!(rt; is_message(rt.alloc(), 4, &[], 0)?);
-    assert!(rt; is_message(rt.alloc(), 5, &[0, 0, 0, 9], 4096)?);
-    assert!(rt; is_message(rt.alloc(), 6, &[0, 0, 0, 0x80], 1024)?);
-    assert!(rt; is_message(rt.alloc(), 7, &[0xFF, 0xFF, 0xFF, 0xFF], 512)?);
-    Ok(())
-}
-
-#[test]
-fn lines_and_checkpoints(rt: HostRuntime) -> Result<(), Fail> {
-    assert!(rt; is_message(rt.alloc(), 9, LINE, 0)?);
-    assert!(rt; is_message(rt.alloc(), 9, CLOSED, 0)?);
-    assert!(rt; is_message(rt.alloc(), 10, &[], 1)?);
-    for kind in [3, 11, 14] {
-        assert!(rt; is_message(rt.alloc(), kind, &[0, 0, 0, 1], 0)?);
+fn each_kind_is_read_and_written(rt: HostRuntime) -> Result<(), Fail> {
+    for (kind, front, fill) in MESSAGES {
+        let bytes = spelled(rt.alloc(), kind, front, fill)?;
+        let begins = (0..bytes.len()).all(|n| decode(rt.alloc(), &bytes[..n]).err()
+            == Some(WireFault::More));
+        assert!(rt;
+            begins && is_read_and_written(rt.alloc(), &bytes)?,
+            "kind {kind}"
+        );
     }
     Ok(())
 }
@@ -153,102 +164,23 @@ fn lines_and_checkpoints(rt: HostRuntime) -> Result<(), Fail> {
 fn spellings(rt: HostRuntime) -> Result<(), Fail> {
     let mut out = Vec::new(rt.alloc());
     encode(&Message::Ack { e: 1 }, &mut out)?;
-    assert_eq!(rt; out.as_slice(), ACK.as_slice());
-    let tuple = Tuple {
-        addr: 0x0A00_0202,
-        port: 40000,
-        guest: 7,
-    };
     let number = Message::Number {
-        tuple,
+        tuple: Tuple {
+            addr: 0x0A00_0202,
+            port: 40000,
+            guest: 7,
+        },
         client: 1000,
         number: 5000,
     };
-    let mut out = Vec::new(rt.alloc());
     encode(&number, &mut out)?;
-    assert_eq!(rt; out.as_slice(), NUMBER.as_slice());
-    assert_eq!(rt;
-        decode(rt.alloc(), &NUMBER[..20]).err(),
-        Some(WireFault::More)
-    );
-    let mut longer = NUMBER.to_vec(rt.alloc())?;
-    longer.push(0)?;
-    if let Some(byte) = longer.get_mut(4) {
-        *byte = 17;
-    }
-    assert_eq!(rt; decode(rt.alloc(), &longer).err(), Some(WireFault::Length));
-    assert_eq!(rt;
-        decode(rt.alloc(), &[0, 0, 0, 0, 0]).err(),
-        Some(WireFault::Kind)
-    );
+    assert_eq!(rt; out.as_slice(), SPELLINGS.as_slice());
     Ok(())
 }
 
 #[test]
-fn a_line_is_read_field_by_field(rt: HostRuntime) -> Result<(), Fail> {
-    let bytes = spelled(rt.alloc(), 9, LINE, 0)?;
-    let Message::Line {
-        mac,
-        flags,
-        own,
-        number,
-        refused,
-        acked,
-        window,
-        mss,
-        base,
-        ..
-    } = decode(rt.alloc(), &bytes)?.0
-    else {
-        return Err("no line".into());
-    };
-    assert_eq!(rt; mac, [0x52, 0x54, 0, 0xAA, 0, 1]);
-    assert_eq!(rt; (flags, own, number), (15, 5000, 5001));
-    assert_eq!(rt; (refused, acked, window), (2000, 0x7FFF_FFFF, 4096));
-    assert_eq!(rt; (mss, base), (536, 3));
-    Ok(())
-}
-
-#[test]
-fn other_lengths_are_refused(rt: HostRuntime) {
-    for (kind, len) in BAD_LENGTHS {
-        assert!(rt;
-            is_bad_length(rt.alloc(), kind, len),
-            "kind {kind} with {len} bytes"
-        );
+fn others_are_refused(rt: HostRuntime) {
+    for (bytes, fault) in OTHERS {
+        assert_eq!(rt; decode(rt.alloc(), bytes).err(), Some(fault), "{bytes:?}");
     }
-    assert_eq!(rt; decode(rt.alloc(), &[2, 1]).err(), Some(WireFault::Length));
-}
-
-#[test]
-fn other_kinds_are_refused(rt: HostRuntime) {
-    for kind in [0, 15, 255] {
-        assert_eq!(rt; decode(rt.alloc(), &[kind]).err(), Some(WireFault::Kind));
-    }
-}
-
-#[test]
-fn bad_fields_are_refused_at_once(rt: HostRuntime) -> Result<(), Fail> {
-    assert!(rt; is_bad_field(rt.alloc(), 1, SEEN, 8, 2)?);
-    for at in [12, 16, 20] {
-        assert!(rt; is_bad_field(rt.alloc(), 1, UNSEEN, at, 1)?);
-    }
-    for at in [18, 22, 26, 30, 34, 36, 38, 42] {
-        assert!(rt; is_bad_field(rt.alloc(), 9, CLOSED, at, 1)?);
-    }
-    for at in [31, 39] {
-        assert!(rt; is_bad_field(rt.alloc(), 9, LINE, at, 0x80)?);
-    }
-    for flags in [2, 8, 10, 14, 16, 17, 255] {
-        assert!(rt; is_bad_field(rt.alloc(), 9, LINE, 14, flags)?);
-    }
-    Ok(())
-}
-
-#[test]
-fn contents_are_given_back(rt: HostRuntime) -> Result<(), Fail> {
-    let contents = Contents::from_vec([1, 2].to_vec(rt.alloc())?);
-    assert_eq!(rt; contents.as_slice(), [1, 2].as_slice());
-    assert_eq!(rt; contents.into_vec().as_slice(), [1, 2].as_slice());
-    Ok(())
 }
