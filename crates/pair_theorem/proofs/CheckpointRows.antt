@@ -11,7 +11,9 @@ use Rattle.replay_log.specs.declared.lines.Line.TheVariants.{ToSecondary, Ask}
 use Rattle.replay_log.specs.declared.records.Answer.{Answer}
 use Rattle.replay_log.specs.declared.records.Answer.TheVariants.{Zero, Heard}
 use Rattle.replay_log.specs.declared.records.Record.{Record}
-use Rattle.pair_theorem.specs.Messages.{Number, Ack, Bytes, kind_of, message_bytes}
+use Rattle.colo_wire.specs.Spelling.{message_bytes, number_body}
+use Rattle.colo_wire.specs.declared.messages.Message.TheVariants.{Number, Ack, Bytes}
+use Rattle.pair_theorem.specs.Messages.{number_of}
 use Rattle.pair_theorem.specs.Past.{Start, boot}
 use Rattle.pair_theorem.proofs.WorkedFrames.{client_syn, worked_kind, worked_tuple}
 use Rattle.pair_theorem.proofs.WorkedSchedules.{opening_lines}
@@ -45,40 +47,35 @@ unfolding pair_log large_start
 checkpoint_kinds = refl
 
 -- 129 sectors go in two pieces
-pub disk_pieces : map kind_of (disk_messages (replicate 129 (replicate 512 0))) ≡ 6 ∷ 6 ∷ []
+pub disk_pieces : map number_of (disk_messages (replicate 129 (replicate 512 0))) ≡ 6 ∷ 6 ∷ []
 disk_pieces = refl
 
 -- 65,537 bytes of a line go in two pieces
 kinds_of_pieces : (bytes : List ℕ) (n : ℕ)
-    → map kind_of (map Bytes (map (piece_at 65536 bytes) (range_with_len 0 n))) ≡ map (λ (k : ℕ). 10)
+    → map number_of (map Bytes (map (piece_at 65536 bytes) (range_with_len 0 n))) ≡ map (λ (k : ℕ). 10)
     (range_with_len 0 n)
 kinds_of_pieces bytes n = by (range_with_len 0 n)
   where
-    by : (ks : List ℕ) → map kind_of (map Bytes (map (piece_at 65536 bytes) ks)) ≡ map (λ (k : ℕ). 10) ks
+    by : (ks : List ℕ) → map number_of (map Bytes (map (piece_at 65536 bytes) ks)) ≡ map (λ (k : ℕ). 10) ks
     by [] = refl
     by (k ∷ ks) = λ i. 10 ∷ by ks i
 
-pub two_pieces : (bytes : List ℕ) → length bytes ≡ 65537 → map kind_of (bytes_messages bytes) ≡ 10 ∷ 10 ∷ []
+pub two_pieces : (bytes : List ℕ) → length bytes ≡ 65537 → map number_of (bytes_messages bytes) ≡ 10 ∷ 10 ∷ []
 two_pieces bytes e =
-    subst (λ (n : ℕ). map kind_of (map Bytes (map (piece_at 65536 bytes) (range_with_len 0 (piece_count 65536 n)))) ≡ 10
-    ∷ 10 ∷ []) (sym e) (kinds_of_pieces bytes 2)
+    subst (λ (n : ℕ). map number_of (map Bytes (map (piece_at 65536 bytes) (range_with_len 0 (piece_count 65536 n))))
+    ≡ 10 ∷ 10 ∷ []) (sym e) (kinds_of_pieces bytes 2)
 
-pub one_piece : (bytes : List ℕ) → length bytes ≡ 65536 → map kind_of (bytes_messages bytes) ≡ 10 ∷ []
+pub one_piece : (bytes : List ℕ) → length bytes ≡ 65536 → map number_of (bytes_messages bytes) ≡ 10 ∷ []
 one_piece bytes e =
-    subst (λ (n : ℕ). map kind_of (map Bytes (map (piece_at 65536 bytes) (range_with_len 0 (piece_count 65536 n)))) ≡ 10
-    ∷ []) (sym e) (kinds_of_pieces bytes 1)
+    subst (λ (n : ℕ). map number_of (map Bytes (map (piece_at 65536 bytes) (range_with_len 0 (piece_count 65536 n))))
+    ≡ 10 ∷ []) (sym e) (kinds_of_pieces bytes 1)
 
 -- SPELLINGS
 pub ack_bytes : message_bytes (Ack 1) ≡ 0x0E ∷ 0 ∷ 0 ∷ 0 ∷ 4 ∷ 0 ∷ 0 ∷ 0 ∷ 1 ∷ []
 unfolding message_bytes
 ack_bytes = refl
 
-pub number_bytes : message_bytes (Number (record {
-  tuple =
-      worked_tuple;
-  client = 1000;
-  number = 5000;
-})) ≡ 2 ∷ 0 ∷ 0 ∷ 0 ∷ 0x10 ∷ 0x0A ∷ 0 ∷ 2 ∷ 2 ∷ 0x9C ∷ 0x40 ∷ 0 ∷ 7 ∷ 0 ∷
-    0 ∷ 3 ∷ 0xE8 ∷ 0 ∷ 0 ∷ 0x13 ∷ 0x88 ∷ []
-unfolding message_bytes
+pub number_bytes : message_bytes (Number worked_tuple 1000 5000) ≡ 2 ∷ 0 ∷ 0 ∷ 0 ∷ 0x10 ∷ 0x0A ∷ 0 ∷ 2 ∷ 2 ∷ 0x9C ∷ 0x40
+    ∷ 0 ∷ 7 ∷ 0 ∷ 0 ∷ 3 ∷ 0xE8 ∷ 0 ∷ 0 ∷ 0x13 ∷ 0x88 ∷ []
+unfolding message_bytes number_body
 number_bytes = refl

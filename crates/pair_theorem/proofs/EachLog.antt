@@ -13,7 +13,7 @@ use Rattle.replay_log.specs.declared.records.Mark.{Mark}
 use Rattle.replay_log.specs.declared.records.Mark.TheVariants.{Captured}
 use Rattle.replay_log.specs.declared.records.Record.{Record}
 use Rattle.pair_theorem.specs.LogParts.{GuestsPart, LogPart, MarksPart, ack_marks, capture_marks, causes_in, commit_marks, count_on, count_turn, counts_released, counts_stated, is_acknowledged, is_captured, is_committed, marks_that, nodes_at}
-use Rattle.pair_theorem.specs.Messages.{Message}
+use Rattle.colo_wire.specs.declared.messages.Message.{Message}
 use Rattle.pair_theorem.specs.Past.{Past, Start, Step, first_past}
 use Rattle.pair_theorem.specs.Places.{events, events_from}
 use Rattle.splice_run.specs.Tokens.{Taken, made_by_primary, made_by_secondary}

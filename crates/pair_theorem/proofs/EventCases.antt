@@ -18,7 +18,8 @@ use Rattle.replay_log.specs.declared.lines.Line.{Line}
 use Rattle.replay_log.specs.declared.lines.Line.TheVariants.{Primary, Secondary, Client, ToSecondary, ToPrimary, StopPrimary, StopSecondary, Report, Ask}
 use Rattle.replay_log.specs.declared.records.Answer.TheVariants.{Nothing, Accepted, Arp, Dropped, Full, Lost, HeardBack, Zero, Reported}
 use Rattle.replay_log.specs.declared.records.Mark.TheVariants.{Captured}
-use Rattle.pair_theorem.specs.Messages.{Message, kind_of}
+use Rattle.colo_wire.specs.declared.messages.Message.{Message}
+use Rattle.pair_theorem.specs.Messages.{number_of}
 use Rattle.pair_theorem.specs.Past.{Outcome, Past, is_primary_stop, is_secondary_stop, primary_stop, secondary_stop, quietly, secondary_releases, silently, step_with}
 
 -- a claim on the past before an event, its line, and its outcome
@@ -69,7 +70,7 @@ pub record Cases (kind : Kind) (P : Claim) : Type 0 where
   pub ignores : (past : Past) (m : Message) (ms : List Message) → past.to_primary ≡ m ∷ ms → is_ack m ≡ false
       → past.awaits_ack ≡ true
       → P past ToPrimary
-      (silently (record past { to_primary = ms }) ToPrimary (HeardBack (kind_of m) past.sent_heard 0) (Some m))
+      (silently (record past { to_primary = ms }) ToPrimary (HeardBack (number_of m) past.sent_heard 0) (Some m))
   pub primary_hears : (past : Past) (m : Message) (ms : List Message) → past.to_primary ≡ m ∷ ms
       → (past.awaits_ack && not (is_ack m)) ≡ false
       → P past ToPrimary (primary_hears (record past { to_primary = ms }) m)
@@ -119,7 +120,7 @@ unfolding deliver_up
 up_case kind P h past [] e = h.idle past ToPrimary
 up_case kind P h past (m ∷ ms) e =
     cond_both (past.awaits_ack && not (is_ack m))
-    (silently (record past { to_primary = ms }) ToPrimary (HeardBack (kind_of m) past.sent_heard 0) (Some m))
+    (silently (record past { to_primary = ms }) ToPrimary (HeardBack (number_of m) past.sent_heard 0) (Some m))
     (primary_hears (record past { to_primary = ms }) m) (P past ToPrimary)
     (λ f. let parts =
     and_parts past.awaits_ack (not (is_ack m)) f in h.ignores past m ms e (not-true (is_ack m) parts.1) parts.0)

@@ -16,7 +16,10 @@ use Rattle.replay_log.specs.declared.records.Mark.{Mark}
 use Rattle.replay_log.specs.declared.records.Mark.TheVariants.{Captured, Committed, Acknowledged}
 use Rattle.splice_run.specs.Log.{released_count}
 use Rattle.pair_theorem.specs.LogParts.{ack_marks, commit_marks, count_on, is_acknowledged, is_captured, is_committed}
-use Rattle.pair_theorem.specs.Messages.{Message, Frame, Number, Begin, State, Page, Disk, Held, LineRow, Bytes, End, Known, Sent, Ack, kind_of}
+use Rattle.colo_wire.specs.declared.messages.Message.{Message}
+use Rattle.colo_wire.specs.declared.messages.Message.TheVariants.{Frame, Number, Begin, State, Page, Disk, Write, Held, Bytes, End, Known, Sent, Ack}
+use Rattle.colo_wire.specs.declared.messages.Message.TheVariants as message
+use Rattle.pair_theorem.specs.Messages.{number_of, waiting_in}
 use Rattle.pair_theorem.specs.Past.{Outcome, Past, is_primary_stop, primary_stop, quietly, secondary_stop, silently, step_with}
 use Rattle.splice_run.specs.Tokens.{made_by_primary, made_by_secondary}
 use Rattle.pair_theorem.proofs.EventCases.{Cases, asked_outcome, each_case}
@@ -41,49 +44,18 @@ pub record EventFacts (past : Past) (x : Line) (o : Outcome) : Type 0 where
   pub secondary_turned : o.after.secondary_turned ≡ count_on past.secondary_turned
       (made_by_secondary x o.step.entry.answer)
 
-no_primary_turn : (x : Line) → made_by_primary x Nothing ≡ []
-no_primary_turn (Primary d i b n) = refl
-no_primary_turn (Secondary d i b n) = refl
-no_primary_turn Client = refl
-no_primary_turn ToSecondary = refl
-no_primary_turn ToPrimary = refl
-no_primary_turn StopPrimary = refl
-no_primary_turn StopSecondary = refl
-no_primary_turn Report = refl
-no_primary_turn Ask = refl
-
-no_secondary_turn : (x : Line) → made_by_secondary x Nothing ≡ []
-no_secondary_turn (Primary d i b n) = refl
-no_secondary_turn (Secondary d i b n) = refl
-no_secondary_turn Client = refl
-no_secondary_turn ToSecondary = refl
-no_secondary_turn ToPrimary = refl
-no_secondary_turn StopPrimary = refl
-no_secondary_turn StopSecondary = refl
-no_secondary_turn Report = refl
-no_secondary_turn Ask = refl
-
-no_commit : (x : Line) → commit_marks x None ≡ []
-no_commit (Primary d i b n) = refl
-no_commit (Secondary d i b n) = refl
-no_commit Client = refl
-no_commit ToSecondary = refl
-no_commit ToPrimary = refl
-no_commit StopPrimary = refl
-no_commit StopSecondary = refl
-no_commit Report = refl
-no_commit Ask = refl
-
-no_ack : (x : Line) → ack_marks x None ≡ []
-no_ack (Primary d i b n) = refl
-no_ack (Secondary d i b n) = refl
-no_ack Client = refl
-no_ack ToSecondary = refl
-no_ack ToPrimary = refl
-no_ack StopPrimary = refl
-no_ack StopSecondary = refl
-no_ack Report = refl
-no_ack Ask = refl
+-- what is answered by `-` and delivers nothing is no turn, no commit and no acknowledgement
+nothing_made : (x : Line) → (made_by_primary x Nothing ≡ []) × (made_by_secondary x Nothing ≡ [])
+    × (commit_marks x None ≡ []) × (ack_marks x None ≡ [])
+nothing_made (Primary d i b n) = (refl, refl, refl, refl)
+nothing_made (Secondary d i b n) = (refl, refl, refl, refl)
+nothing_made Client = (refl, refl, refl, refl)
+nothing_made ToSecondary = (refl, refl, refl, refl)
+nothing_made ToPrimary = (refl, refl, refl, refl)
+nothing_made StopPrimary = (refl, refl, refl, refl)
+nothing_made StopSecondary = (refl, refl, refl, refl)
+nothing_made Report = (refl, refl, refl, refl)
+nothing_made Ask = (refl, refl, refl, refl)
 
 idle_facts : (past : Past) (x : Line) → EventFacts past x (silently past x Nothing None)
 idle_facts past x = record {
@@ -91,10 +63,10 @@ idle_facts past x = record {
   counts = refl;
   captured = refl;
   captures = refl;
-  committed = sym (no_commit x);
-  acknowledged = sym (no_ack x);
-  primary_turned = ap (λ ts. count_on past.primary_turned ts) (sym (no_primary_turn x));
-  secondary_turned = ap (λ ts. count_on past.secondary_turned ts) (sym (no_secondary_turn x));
+  committed = sym (nothing_made x).2;
+  acknowledged = sym (nothing_made x).3;
+  primary_turned = ap (λ ts. count_on past.primary_turned ts) (sym (nothing_made x).0);
+  secondary_turned = ap (λ ts. count_on past.secondary_turned ts) (sym (nothing_made x).1);
 }
 
 -- an event that settled: the cause adds its mark and starts the checkpoint, which changes no guest
@@ -206,8 +178,8 @@ quiet_facts past after x answer same c p s = record {
   counts = c;
   captured = refl;
   captures = same.0;
-  committed = sym (no_commit x);
-  acknowledged = sym (no_ack x);
+  committed = sym (nothing_made x).2;
+  acknowledged = sym (nothing_made x).3;
   primary_turned = same.1 ∙ ap (λ ts. count_on past.primary_turned ts) (sym p);
   secondary_turned = same.2 ∙ ap (λ ts. count_on past.secondary_turned ts) (sym s);
 }
@@ -229,106 +201,81 @@ heard_facts past after x answer marks m same c p s q k a = record {
   secondary_turned = same.2 ∙ ap (λ ts. count_on past.secondary_turned ts) (sym s);
 }
 
+-- a message to the secondary that commits nothing
+told_facts : (past after : Past) (k : ℕ) (full : Bool) (m : Message) → SameCounts past after
+    → commit_marks ToSecondary (Some m) ≡ []
+    → EventFacts past ToSecondary (silently after ToSecondary (Heard k full) (Some m))
+told_facts past after k full m same e =
+    heard_facts past after ToSecondary (Heard k full) [] m same refl refl refl refl (sym e) refl
+
+-- what is only kept for the commit
+kept_facts : (past : Past) (ms : List Message) (m : Message) → commit_marks ToSecondary (Some m) ≡ []
+    → EventFacts past ToSecondary
+    (silently (record past { to_secondary = ms }) ToSecondary (Heard (number_of m) false) (Some m))
+kept_facts past ms m e =
+    told_facts past (record past { to_secondary = ms }) (number_of m) false m (refl, refl, refl) e
+
 down_facts : (past : Past) (m : Message) (ms : List Message)
     → EventFacts past ToSecondary (secondary_hears (record past { to_secondary = ms }) m)
 unfolding secondary_hears hear_frame
-down_facts past (Frame w) ms =
-    heard_facts past (hear_frame (record past {
-      to_secondary =
-          ms;
-    }) w) ToSecondary (Heard 1 (is_full past.secondary_inbox)) [] (Frame w) (refl, refl, refl) refl refl refl
-    refl refl refl
-down_facts past (Number n) ms =
-    heard_facts past (hear_number (record past {
-      to_secondary =
-          ms;
-    }) n) ToSecondary (Heard 2 false) [] (Number n) (refl, refl, refl) refl refl refl refl refl refl
+down_facts past (Frame index seen trim frame) ms =
+    told_facts past (hear_frame (record past { to_secondary = ms }) (waiting_in index seen trim frame)) 1
+    (is_full past.secondary_inbox) (Frame index seen trim frame) (refl, refl, refl) refl
+down_facts past (Number t client number) ms =
+    told_facts past (hear_number (record past { to_secondary = ms }) t client number) 2 false
+    (Number t client number) (refl, refl, refl) refl
 down_facts past (End e) ms =
-    heard_facts past (hear_end (record past {
-      to_secondary =
-          ms;
-    }) e) ToSecondary (Heard 11 false) (Committed e ∷ []) (End e) (refl, refl, refl) refl refl refl refl refl
-    refl
-down_facts past (Begin e) ms =
-    heard_facts past (record past {
-      to_secondary =
-          ms;
-    }) ToSecondary (Heard 3 false) [] (Begin e) (refl, refl, refl) refl refl refl refl refl refl
-down_facts past (State bytes) ms =
-    heard_facts past (record past {
-      to_secondary =
-          ms;
-    }) ToSecondary (Heard 4 false) [] (State bytes) (refl, refl, refl) refl refl refl refl refl refl
-down_facts past (Page k bytes) ms =
-    heard_facts past (record past {
-      to_secondary =
-          ms;
-    }) ToSecondary (Heard 5 false) [] (Page k bytes) (refl, refl, refl) refl refl refl refl refl refl
-down_facts past (Disk first bytes) ms =
-    heard_facts past (record past {
-      to_secondary =
-          ms;
-    }) ToSecondary (Heard 6 false) [] (Disk first bytes) (refl, refl, refl) refl refl refl refl refl refl
-down_facts past (Held w) ms =
-    heard_facts past (record past {
-      to_secondary =
-          ms;
-    }) ToSecondary (Heard 8 false) [] (Held w) (refl, refl, refl) refl refl refl refl refl refl
-down_facts past (LineRow r) ms =
-    heard_facts past (record past {
-      to_secondary =
-          ms;
-    }) ToSecondary (Heard 9 false) [] (LineRow r) (refl, refl, refl) refl refl refl refl refl refl
-down_facts past (Bytes bytes) ms =
-    heard_facts past (record past {
-      to_secondary =
-          ms;
-    }) ToSecondary (Heard 10 false) [] (Bytes bytes) (refl, refl, refl) refl refl refl refl refl refl
-down_facts past (Known n) ms =
-    heard_facts past (record past {
-      to_secondary =
-          ms;
-    }) ToSecondary (Heard 12 false) [] (Known n) (refl, refl, refl) refl refl refl refl refl refl
-down_facts past (Sent frame) ms =
-    heard_facts past (record past {
-      to_secondary =
-          ms;
-    }) ToSecondary (Heard 13 false) [] (Sent frame) (refl, refl, refl) refl refl refl refl refl refl
-down_facts past (Ack e) ms =
-    heard_facts past (record past {
-      to_secondary =
-          ms;
-    }) ToSecondary (Heard 14 false) [] (Ack e) (refl, refl, refl) refl refl refl refl refl refl
+    heard_facts past (hear_end (record past { to_secondary = ms }) e) ToSecondary (Heard 11 false)
+    (Committed e ∷ []) (End e) (refl, refl, refl) refl refl refl refl refl refl
+down_facts past (Begin e) ms = kept_facts past ms (Begin e) refl
+down_facts past (State bytes) ms = kept_facts past ms (State bytes) refl
+down_facts past (Page k bytes) ms = kept_facts past ms (Page k bytes) refl
+down_facts past (Disk first bytes) ms = kept_facts past ms (Disk first bytes) refl
+down_facts past (Write k bytes) ms = kept_facts past ms (Write k bytes) refl
+down_facts past (Held index seen trim frame) ms = kept_facts past ms (Held index seen trim frame) refl
+down_facts past (message.Line t mac flags client own number refused acked window mss base) ms =
+    kept_facts past ms (message.Line t mac flags client own number refused acked window mss base) refl
+down_facts past (Bytes bytes) ms = kept_facts past ms (Bytes bytes) refl
+down_facts past (Known t client number) ms = kept_facts past ms (Known t client number) refl
+down_facts past (Sent frame) ms = kept_facts past ms (Sent frame) refl
+down_facts past (Ack e) ms = kept_facts past ms (Ack e) refl
 
 -- a message that the primary ignores is no acknowledgement
 ignored_ack : (m : Message) → is_ack m ≡ false → ack_marks ToPrimary (Some m) ≡ []
-ignored_ack (Frame w) e = refl
-ignored_ack (Number n) e = refl
+ignored_ack (Frame index seen trim frame) e = refl
+ignored_ack (Number t client number) e = refl
 ignored_ack (Begin n) e = refl
 ignored_ack (State bytes) e = refl
 ignored_ack (Page k bytes) e = refl
 ignored_ack (Disk first bytes) e = refl
-ignored_ack (Held w) e = refl
-ignored_ack (LineRow r) e = refl
+ignored_ack (Write k bytes) e = refl
+ignored_ack (Held index seen trim frame) e = refl
+ignored_ack (message.Line t mac flags client own number refused acked window mss base) e = refl
 ignored_ack (Bytes bytes) e = refl
 ignored_ack (End n) e = refl
-ignored_ack (Known n) e = refl
+ignored_ack (Known t client number) e = refl
 ignored_ack (Sent frame) e = refl
 ignored_ack (Ack n) e = absurd (true≢false e)
 
 ignored_facts : (past : Past) (m : Message) (ms : List Message) → is_ack m ≡ false
     → EventFacts past ToPrimary
-    (silently (record past { to_primary = ms }) ToPrimary (HeardBack (kind_of m) past.sent_heard 0) (Some m))
+    (silently (record past { to_primary = ms }) ToPrimary (HeardBack (number_of m) past.sent_heard 0) (Some m))
 ignored_facts past m ms e =
-    heard_facts past (record past { to_primary = ms }) ToPrimary (HeardBack (kind_of m) past.sent_heard 0) [] m
+    heard_facts past (record past { to_primary = ms }) ToPrimary (HeardBack (number_of m) past.sent_heard 0) [] m
     (refl, refl, refl) refl refl refl refl refl (sym (ignored_ack m e))
+
+-- a message that the primary never hears
+idle_hearing : (past : Past) (ms : List Message)
+    → EventFacts past ToPrimary (silently (record past { to_primary = ms }) ToPrimary Nothing None)
+idle_hearing past ms =
+    quiet_facts past (record past { to_primary = ms }) ToPrimary Nothing (refl, refl, refl) refl refl refl
 
 up_facts : (past : Past) (m : Message) (ms : List Message)
     → EventFacts past ToPrimary (primary_hears (record past { to_primary = ms }) m)
 unfolding primary_hears outcome_with known_ended sent_ended ack_ended settle_event ended_by
-up_facts past (Known n) ms =
-    let e = known_ended (record past { to_primary = ms }) n in
-    ended_facts past e.cause ToPrimary (Some (Known n)) (HeardBack 12 past.sent_heard) e refl refl
+up_facts past (Known t client number) ms =
+    let e = known_ended (record past { to_primary = ms }) t client number in
+    ended_facts past e.cause ToPrimary (Some (Known t client number)) (HeardBack 12 past.sent_heard) e refl refl
     (record { counts = refl; captures = refl; primary_turned = refl; secondary_turned = refl })
 up_facts past (Sent frame) ms =
     let e = sent_ended (record past { to_primary = ms }) frame in
@@ -338,26 +285,17 @@ up_facts past (Ack n) ms =
     let e = ack_ended (record past { to_primary = ms }) in
     acked_facts past e.cause n (HeardBack 14 0) e
     (record { counts = refl; captures = refl; primary_turned = refl; secondary_turned = refl })
-up_facts past (Frame w) ms =
-    quiet_facts past (record past { to_primary = ms }) ToPrimary Nothing (refl, refl, refl) refl refl refl
-up_facts past (Number n) ms =
-    quiet_facts past (record past { to_primary = ms }) ToPrimary Nothing (refl, refl, refl) refl refl refl
-up_facts past (Begin e) ms =
-    quiet_facts past (record past { to_primary = ms }) ToPrimary Nothing (refl, refl, refl) refl refl refl
-up_facts past (State bytes) ms =
-    quiet_facts past (record past { to_primary = ms }) ToPrimary Nothing (refl, refl, refl) refl refl refl
-up_facts past (Page k bytes) ms =
-    quiet_facts past (record past { to_primary = ms }) ToPrimary Nothing (refl, refl, refl) refl refl refl
-up_facts past (Disk first bytes) ms =
-    quiet_facts past (record past { to_primary = ms }) ToPrimary Nothing (refl, refl, refl) refl refl refl
-up_facts past (Held w) ms =
-    quiet_facts past (record past { to_primary = ms }) ToPrimary Nothing (refl, refl, refl) refl refl refl
-up_facts past (LineRow r) ms =
-    quiet_facts past (record past { to_primary = ms }) ToPrimary Nothing (refl, refl, refl) refl refl refl
-up_facts past (Bytes bytes) ms =
-    quiet_facts past (record past { to_primary = ms }) ToPrimary Nothing (refl, refl, refl) refl refl refl
-up_facts past (End e) ms =
-    quiet_facts past (record past { to_primary = ms }) ToPrimary Nothing (refl, refl, refl) refl refl refl
+up_facts past (Frame index seen trim frame) ms = idle_hearing past ms
+up_facts past (Number t client number) ms = idle_hearing past ms
+up_facts past (Begin e) ms = idle_hearing past ms
+up_facts past (State bytes) ms = idle_hearing past ms
+up_facts past (Page k bytes) ms = idle_hearing past ms
+up_facts past (Disk first bytes) ms = idle_hearing past ms
+up_facts past (Write k bytes) ms = idle_hearing past ms
+up_facts past (Held index seen trim frame) ms = idle_hearing past ms
+up_facts past (message.Line t mac flags client own number refused acked window mss base) ms = idle_hearing past ms
+up_facts past (Bytes bytes) ms = idle_hearing past ms
+up_facts past (End e) ms = idle_hearing past ms
 
 left_facts : (past : Past) → EventFacts past Report (outcome_with Report [] None Reported (primary_survives past))
 unfolding outcome_with primary_survives settle_event ended_by

@@ -56,7 +56,8 @@ pub before_end : told (pair_log worked_start stop_before_end_lines) ≡ before_e
 unfolding pair_log worked_start
 before_end = refl
 
-pub before_end_single : single_run (entries (pair_log worked_start stop_before_end_lines)) ≡ syn_turn 2 ∷ single_turn 7 ∷ []
+pub before_end_single : single_run (entries (pair_log worked_start stop_before_end_lines))
+    ≡ syn_turn 2 ∷ single_turn 7 ∷ []
 unfolding pair_log worked_start single_run
 before_end_single = refl
 
@@ -73,7 +74,8 @@ pub after_end : told (pair_log worked_start stop_after_end_lines) ≡ after_end_
 unfolding pair_log worked_start
 after_end = refl
 
-pub after_end_single : single_run (entries (pair_log worked_start stop_after_end_lines)) ≡ syn_turn 1 ∷ single_turn 6 ∷ []
+pub after_end_single : single_run (entries (pair_log worked_start stop_after_end_lines))
+    ≡ syn_turn 1 ∷ single_turn 6 ∷ []
 unfolding pair_log worked_start single_run
 after_end_single = refl
 

@@ -306,15 +306,18 @@ missing_test a steps = list_all (is_accounted_for a steps) (accepted_indices ste
 unfoldable pub names_test : Start → List Step → Bool
 unfolding run_indices accepted_frame missing_test
 names_test a steps =
-    rises (run_indices (entries steps)) && (list_all (is_accepted a.stream) (run_indices (entries steps)) && missing_test a
-    steps)
+    rises (run_indices (entries steps))
+    && (list_all (is_accepted a.stream) (run_indices (entries steps)) && missing_test a steps)
 
 names_with : (a : Start) (steps : List Step) → rises (run_indices (entries steps)) ≡ true
-    → list_all (is_accepted a.stream) (run_indices (entries steps)) ≡ true → missing_test a steps ≡ true → NamesPart a steps
+    → list_all (is_accepted a.stream) (run_indices (entries steps)) ≡ true → missing_test a steps ≡ true
+    → NamesPart a steps
 unfolding missing_test
 names_with a steps e f g = record {
   rising = rising (run_indices (entries steps)) e;
-  accepted = All_from (λ i. IsTrue (is_accepted a.stream i)) (is_accepted a.stream) (run_indices (entries steps)) (λ i h. h) f;
+  accepted =
+      All_from (λ i. IsTrue (is_accepted a.stream i)) (is_accepted a.stream) (run_indices (entries steps)) (λ i h. h)
+      f;
   missing =
       All_from (λ i. IsTrue (is_accounted_for a steps i)) (is_accounted_for a steps) (accepted_indices steps) (λ i h. h)
       g;
@@ -325,7 +328,8 @@ unfolding names_test
 names_from a steps e =
     let outer = and_parts (rises (run_indices (entries steps)))
     (list_all (is_accepted a.stream) (run_indices (entries steps)) && missing_test a steps) e in
-    let inner = and_parts (list_all (is_accepted a.stream) (run_indices (entries steps))) (missing_test a steps) outer.1 in
+    let inner = and_parts (list_all (is_accepted a.stream) (run_indices (entries steps))) (missing_test a steps)
+    outer.1 in
     names_with a steps outer.0 inner.0 inner.1
 
 -- LOG

@@ -36,7 +36,9 @@ use Rattle.replay_log.specs.declared.records.Answer.{Answer}
 use Rattle.replay_log.specs.declared.records.Answer.TheVariants.{Nothing, Made, Accepted, Arp, Dropped, Full, Lost, Heard, HeardBack, Zero, Reported}
 use Rattle.replay_log.specs.declared.records.Mark.{Mark}
 use Rattle.replay_log.specs.declared.records.Mark.TheVariants.{Captured, Committed, Acknowledged}
-use Rattle.pair_theorem.specs.Messages.{Message, Frame, Number, NumberOf, End, Known, Sent, Ack, kind_of}
+use Rattle.colo_wire.specs.declared.messages.Message.{Message}
+use Rattle.colo_wire.specs.declared.messages.Message.TheVariants.{Frame, Number, End, Known, Sent, Ack}
+use Rattle.pair_theorem.specs.Messages.{number_of, frame_message, waiting_in}
 use Rattle.pair_theorem.specs.Past.{Agreed, Outcome, Past, is_primary_stop, is_secondary_stop, primary_stop, secondary_stop, quietly, releasing_items, secondary_releases, silently, step_with}
 
 abbrev pub raise_count : ℕ → ℕ
@@ -70,7 +72,7 @@ scene_of past own x = record {
 }
 
 abbrev pub number_message : KeptNumber → Message
-number_message k = Number (record { tuple = k.tuple; client = k.client; number = k.number })
+number_message k = Number k.tuple k.client k.number
 
 -- newly kept numbers are told to the secondary; a node alone tells nothing, and has no cause
 unfoldable pub ended_by : Past → OwnFrames → Scene → List Tuple → Ended
@@ -197,7 +199,7 @@ accept_by false past w trims = record past {
   primary = record past.primary { items = past.primary.items ++ trims };
   primary_inbox = past.primary_inbox ++ w ∷ [];
   to_secondary =
-      if past.is_reported then past.to_secondary else past.to_secondary ++ Frame w ∷ [];
+      if past.is_reported then past.to_secondary else past.to_secondary ++ frame_message w ∷ [];
 }
 
 abbrev pub taking_inbox : Past → List Waiting
@@ -233,9 +235,9 @@ client_event past (Some frame) =
     else client_entry past (entry_of frame)
 
 -- THE SECONDARY HEARS
-abbrev pub number_after : Option KeptNumber → NumberOf → NumberOf
-number_after None n = n
-number_after (Some k) n = record n { number = k.number }
+abbrev pub number_after : Option KeptNumber → ℕ → ℕ
+number_after None number = number
+number_after (Some k) number = k.number
 
 abbrev pub is_full : List Waiting → Bool
 is_full inbox = nat_le INBOX_ROOM (length inbox)
@@ -251,12 +253,12 @@ hear_frame past w = record past {
 }
 
 -- the first number for a client is kept, and the kept one is said back
-abbrev pub hear_number : Past → NumberOf → Past
-hear_number past n = record past {
-  secondary_numbers = keep_number n.tuple n.client n.number true past.secondary_numbers;
+abbrev pub hear_number : Past → Tuple → ℕ → ℕ → Past
+hear_number past t client number = record past {
+  secondary_numbers = keep_number t client number true past.secondary_numbers;
   to_primary =
       past.to_primary
-      ++ Known (number_after (kept_number n.tuple n.client past.secondary_numbers) n) ∷ [];
+      ++ Known t client (number_after (kept_number t client past.secondary_numbers) number) ∷ [];
 }
 
 -- the commit: guest, inbox, lines and numbers become the captured ones
@@ -271,15 +273,16 @@ hear_end past e = record past {
 -- what else belongs to a checkpoint is kept apart
 unfoldable pub secondary_hears : Past → Message → Outcome
 unfolding hear_frame
-secondary_hears past (Frame w) =
-    silently (hear_frame past w) ToSecondary (Heard 1 (is_full past.secondary_inbox))
-    (Some (Frame w))
-secondary_hears past (Number n) =
-    silently (hear_number past n) ToSecondary (Heard 2 false) (Some (Number n))
+secondary_hears past (Frame index seen trim frame) =
+    silently (hear_frame past (waiting_in index seen trim frame)) ToSecondary
+    (Heard 1 (is_full past.secondary_inbox)) (Some (Frame index seen trim frame))
+secondary_hears past (Number t client number) =
+    silently (hear_number past t client number) ToSecondary (Heard 2 false)
+    (Some (Number t client number))
 secondary_hears past (End e) =
     quietly (hear_end past e)
     (step_with ToSecondary (Heard 11 false) (Committed e ∷ []) (Some (End e)) [])
-secondary_hears past m = silently past ToSecondary (Heard (kind_of m) false) (Some m)
+secondary_hears past m = silently past ToSecondary (Heard (number_of m) false) (Some m)
 
 unfoldable pub deliver_down : Past → List Message → Outcome
 unfolding secondary_hears
@@ -295,10 +298,10 @@ restarts_in items (s ∷ _) = if is_restart items s then tuple_of s ∷ [] else 
 abbrev pub no_frames : List Item → Settling
 no_frames items = record { before = items; own = []; restarts = []; is_turn = false }
 
-unfoldable pub known_ended : Past → NumberOf → Ended
+unfoldable pub known_ended : Past → Tuple → ℕ → ℕ → Ended
 unfolding settle_event
-known_ended past n =
-    settle_event (record past { numbers = learn_number past.numbers n.tuple n.client n.number })
+known_ended past t client number =
+    settle_event (record past { numbers = learn_number past.numbers t client number })
     (no_frames past.primary.items)
 
 unfoldable pub sent_ended : Past → List ℕ → Ended
@@ -333,8 +336,9 @@ ack_ended past = settle_event (acknowledge past) (no_frames (committed_items pas
 -- no other message is ever on that link, and no acknowledgement that is not awaited
 unfoldable pub primary_hears : Past → Message → Outcome
 unfolding outcome_with known_ended sent_ended ack_ended
-primary_hears past (Known n) =
-    outcome_with ToPrimary [] (Some (Known n)) (HeardBack 12 past.sent_heard) (known_ended past n)
+primary_hears past (Known t client number) =
+    outcome_with ToPrimary [] (Some (Known t client number)) (HeardBack 12 past.sent_heard)
+    (known_ended past t client number)
 primary_hears past (Sent frame) =
     outcome_with ToPrimary [] (Some (Sent frame)) (HeardBack 13 (past.sent_heard + 1))
     (sent_ended past frame)
@@ -343,7 +347,7 @@ primary_hears past (Ack e) =
 primary_hears past m = silently past ToPrimary Nothing None
 
 abbrev pub is_ack : Message → Bool
-is_ack m = kind_of m == 14
+is_ack m = number_of m == 14
 
 -- while it awaits an acknowledgement the primary ignores every other message
 unfoldable pub deliver_up : Past → List Message → Outcome
@@ -352,7 +356,7 @@ deliver_up past [] = silently past ToPrimary Nothing None
 deliver_up past (m ∷ ms) =
     if past.awaits_ack && not (is_ack m)
     then silently (record past { to_primary = ms }) ToPrimary
-    (HeardBack (kind_of m) past.sent_heard 0) (Some m)
+    (HeardBack (number_of m) past.sent_heard 0) (Some m)
     else primary_hears (record past { to_primary = ms }) m
 
 -- THE REPORT: what is left on both links is lost, and an unfinished checkpoint is dropped

@@ -20,7 +20,9 @@ use Rattle.replay_log.specs.declared.records.Mark.TheVariants.{Captured, Committ
 use Rattle.replay_log.specs.declared.records.Record.{Record}
 use Rattle.pair_theorem.specs.Log.{is_report}
 use Rattle.splice_run.specs.Log.{has_primary_stop, released_count}
-use Rattle.pair_theorem.specs.Messages.{Message, Frame, State, Page, Disk, End, Ack, message_bytes}
+use Rattle.colo_wire.specs.Spelling.{line_front, line_numbers, line_rest, message_bytes, number_body, waiting_body}
+use Rattle.colo_wire.specs.declared.messages.Message.{Message}
+use Rattle.colo_wire.specs.declared.messages.Message.TheVariants.{Frame, State, Page, Disk, End, Ack}
 use Rattle.pair_theorem.specs.Past.{Past, Start, Step, is_primary_stop}
 use Rattle.pair_theorem.specs.Places.{Event, events}
 use Rattle.pair_theorem.specs.TheRun.{run_of, the_run}
@@ -59,7 +61,7 @@ abbrev pub accepted_indices : List Step → List ℕ
 accepted_indices steps = filter_map (λ (s : Step). accepted_in s.entry.answer) steps
 
 abbrev pub frame_in : Message → Option ℕ
-frame_in (Frame w) = Some w.index
+frame_in (Frame index seen trim frame) = Some index
 frame_in _ = None
 
 abbrev pub frames_on : List Message → List ℕ
@@ -67,7 +69,7 @@ frames_on messages = filter_map frame_in messages
 
 -- the secondary's inbox held as many as it can
 abbrev pub full_with : Option Message → Answer → Option ℕ
-full_with (Some (Frame w)) (Heard kind true) = Some w.index
+full_with (Some (Frame index seen trim frame)) (Heard kind true) = Some index
 full_with _ _ = None
 
 abbrev pub is_full_for : ℕ → List Step → Bool
@@ -175,7 +177,7 @@ arrow ToPrimary = 0x3C
 arrow _ = 0x3E
 
 unfoldable pub delivered_bytes : Step → List ℕ
-unfolding message_bytes
+unfolding message_bytes waiting_body number_body line_front line_numbers line_rest
 delivered_bytes s =
     option_map_or (λ (m : Message). arrow s.entry.line ∷ message_bytes m) s.delivered []
 

@@ -16,7 +16,7 @@ use Rattle.replay_log.specs.declared.records.Mark.{Mark}
 use Rattle.replay_log.specs.declared.records.Record.{Record}
 use Rattle.splice_run.specs.Tokens.{Taken}
 use Rattle.frame_mirror.specs.declared.ring.Waiting.{Waiting}
-use Rattle.pair_theorem.specs.Messages.{Message}
+use Rattle.colo_wire.specs.declared.messages.Message.{Message}
 
 -- A node's run of its guest, with the turns as a log names them, and its items: the segments that
 -- count among the frames sent, with the trims taken and the commits between them.
