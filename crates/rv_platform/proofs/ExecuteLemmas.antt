@@ -61,7 +61,7 @@ left_execution p s o h c b w i e mid new before after left is =
 -- where no register was touched, the parts are settled
 pub still_settled : (p : Parts) (h : Regs) (c : CsrState) (b : Board) → IsSettled p → KeepsLines p.csrs c
     → IsOneStore board_acts p.board b → b.touched ≡ false
-    → IsSettled (let q : Parts = record { hart = h; csrs = c; board = b } in q)
+    → IsSettled (let q : Parts = record { hart = h; csrs = c; board = b; memo = tt } in q)
 still_settled p h c b s lines one t =
     let k = untouched p.board b one s.touched t in
     let by_msip : Bool → Clint =
@@ -95,6 +95,6 @@ same_time p c b s lines one =
 
 -- the kinds are kept
 pub kinds_executed : (p : Parts) (h : Regs) (c : CsrState) (b : Board) → IsOneStore board_acts p.board b
-    → KeepsKinds (platform_of p) (platform_of (let q : Parts = record { hart = h; csrs = c; board = b } in q))
+    → KeepsKinds (platform_of p) (platform_of (let q : Parts = record { hart = h; csrs = c; board = b; memo = tt } in q))
 kinds_executed p h c b one =
     let k = board_kept p.board b one in record { net = k.net; blk = k.blk; memory = k.memory }

@@ -1,4 +1,5 @@
 pub mod BoardLemmas
 pub mod ExecuteLemmas
 pub mod KindLemmas
+pub mod MemoLemmas
 pub mod StepLemmas

@@ -8,6 +8,7 @@
 
 mod board;
 mod clint;
+mod memo;
 mod parts;
 mod platform;
 #[cfg(test)]

@@ -9,20 +9,22 @@ ghost use Rattle.rv_platform.specs.Settled.{IsSettled, KeepsKinds, Leaves, platf
 ghost use Rattle.rv_platform.specs.Step.{csrs_of, decode_step, enter_by, execute_step, platform_with, quiet, run_steps, send_frames, serve_notify, step, step_from, take_trap};
 
 use crate::board::Board;
+use crate::memo::Memo;
 use colo_base::{Frames, NoMemory};
 use rv_core::{Bus, Hart, Outcome};
-use rv_isa::{Instr, decode};
+use rv_isa::Instr;
 use rv_traps::Csrs;
 use rv_traps::cause::{ILLEGAL_INSTRUCTION, INSTRUCTION_ACCESS_FAULT};
 use virtio_mmio::Served;
 
-/// The hart, the CSRs and the bus. Between two steps the parts are settled: the CSRs have the
+/// The hart, the CSRs and the bus, beside words that were decoded. Between two steps the parts are settled: the CSRs have the
 /// devices' line, and the bus has the lines and the timer of the CSRs.
 #[derive(Drop)]
 pub struct Parts {
     pub hart: Hart,
     pub csrs: Csrs,
     pub board: Board,
+    pub memo: Memo,
 }
 
 impl Parts {
@@ -93,7 +95,8 @@ impl Parts {
         ensures settled { IsSettled self.new }
         ensures kinds { KeepsKinds (platform_of self.old) (platform_of self.new) }
     {
-        let Some(instr) = decode(word) else {
+        let pc = self.hart.pc();
+        let Some(instr) = self.memo.decode(pc, word) else {
             self.enter(ILLEGAL_INSTRUCTION, word);
             return Ok(());
         };

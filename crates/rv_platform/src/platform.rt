@@ -13,6 +13,7 @@ ghost use Rattle.rv_platform.specs.Values.{IsLegalCsrs, IsLegalFor, IsLegalHart,
 
 use crate::board::Board;
 use crate::clint::Clint;
+use crate::memo::Memo;
 use crate::parts::Parts;
 use colo_base::{Frames, NoMemory};
 use page_track::Ram;
@@ -77,6 +78,7 @@ impl Platform {
                 touched: false,
                 notified: false,
             },
+            memo: Memo::new(),
         };
         Platform { parts }
     }
