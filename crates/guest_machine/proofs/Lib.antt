@@ -1,5 +1,6 @@
 pub mod BootLemmas
 pub mod KindLemmas
+pub mod LawLemmas
 pub mod PageLemmas
 pub mod SectorLemmas
 pub mod StateLemmas

@@ -1,4 +1,5 @@
 pub mod Boot
 pub mod Guest
 pub mod Kinds
+pub mod Laws
 pub mod Turn

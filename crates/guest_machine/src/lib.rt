@@ -4,7 +4,9 @@
 #![tactic(auto)]
 
 mod fault;
+mod law;
 mod machine;
 
 pub use fault::BootFault;
+pub use law::steps_are_turns;
 pub use machine::Machine;

@@ -3,3 +3,4 @@ pub mod ExecuteLemmas
 pub mod KindLemmas
 pub mod MemoLemmas
 pub mod StepLemmas
+pub mod TimeLemmas
