@@ -1,6 +1,6 @@
 #!/usr/bin/env bash
-# Runs the built `colo` on what the stored run doesn't show: a status other than 0, a demo image, and two C programs, one
-# whose memory is checked afterwards and one whose disk is. Where a tool is missing, one line says what was passed over.
+# Runs the built `colo` on what the stored run doesn't show: a status other than 0, a demo image, and three C programs, of which
+# memory or the disk is checked afterwards. Where a tool is missing, one line says what was passed over.
 # COLO names the program `colo`, if it is not the one built in crates/colo.
 set -eu
 cd "$(dirname "$0")"
@@ -80,3 +80,9 @@ head -c 2048 /dev/zero > out/disk
 for _ in $(seq 200); do echo "P 250 1 4 2000"; done > out/schedule
 "$colo" replay out/devices.elf out/disk out/client out/schedule out/devices
 python3 check_devices.py out/devices.disk
+
+build out/ring.elf ring.c
+head -c 512 /dev/zero > out/disk
+for _ in $(seq 20); do echo "P 250 0 4 2000"; done > out/schedule
+"$colo" replay out/ring.elf out/disk out/client out/schedule out/ring
+python3 check_ring.py out/ring.ram
