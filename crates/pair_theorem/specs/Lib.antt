@@ -1,4 +1,5 @@
 pub mod Log
+pub mod SentLines
 pub mod ClientFrames
 pub mod Messages
 pub mod Past

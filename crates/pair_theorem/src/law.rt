@@ -10,6 +10,7 @@ ghost use Rattle.state_wire.specs.Guest.{GuestState, Kind};
 ghost use Rattle.pair_theorem.specs.History.{pair_log};
 ghost use Rattle.pair_theorem.specs.LogParts.{GuestsPart, LogPart, MarksPart, nodes_at};
 ghost use Rattle.pair_theorem.specs.Past.{Start, boot};
+ghost use Rattle.pair_theorem.specs.SentLines.{StandingIsKept};
 ghost use Rattle.pair_theorem.specs.TheRun.{the_run};
 
 /// Three parts of the theorem hold of every log: it goes through the schedule and states how many
@@ -27,4 +28,10 @@ pub fn boot_runs_the_single_run()
     ensures { (kind : Kind) (stream : List (List ℕ)) (state : GuestState) (m n : ℕ)
         (log : List Record) → the_run (boot kind stream state m n) log
         ≡ run_turns kind stream (record { state = state; sent = [] }) (single_run log) }
+{}
+
+/// A symbol that stands in what was sent is the line's where the line reaches its offset and no
+/// other symbol stands there.
+pub fn standing_symbols_are_kept()
+    ensures { StandingIsKept }
 {}

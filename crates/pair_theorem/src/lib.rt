@@ -10,4 +10,4 @@
 
 mod law;
 
-pub use law::{boot_runs_the_single_run, parts_hold_of_each_log};
+pub use law::{boot_runs_the_single_run, parts_hold_of_each_log, standing_symbols_are_kept};
