@@ -1,0 +1,6 @@
+pub mod Accepted
+pub mod Slots
+pub mod Lines
+pub mod Kept
+pub mod Inside
+pub mod Spelled
