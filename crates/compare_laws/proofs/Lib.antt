@@ -1,0 +1,4 @@
+pub mod AgeLemmas
+pub mod FindLemmas
+pub mod LineLemmas
+pub mod NumberLemmas
