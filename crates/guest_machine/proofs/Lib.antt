@@ -3,5 +3,6 @@ pub mod KindLemmas
 pub mod LawLemmas
 pub mod PageLemmas
 pub mod SectorLemmas
+pub mod SentLemmas
 pub mod StateLemmas
 pub mod TurnLemmas

@@ -1,6 +1,7 @@
--- A turn of many steps is many turns of one step.
-use Rattle.std.specs.Prelude.{◌≡◌, ℕ, zero, suc, ◌+◌, None, ◌++◌}
-use Rattle.state_wire.specs.Guest.{GuestTurn, turn_of}
+-- A turn of many steps is many turns of one step; and what is sent is frames.
+use Rattle.std.specs.Prelude.{◌≡◌, ℕ, zero, suc, ◌+◌, None, ◌++◌, All}
+use Rattle.state_wire.specs.Guest.{GuestState, GuestTurn, IsFrame, Kind, turn_of}
+use Rattle.guest_machine.specs.Guest.{MachineParts, machine_meaning}
 use Rattle.guest_machine.specs.Turn.{State, Turned, make_turn}
 
 -- a turn of steps alone: the clock stands, no frame is received and no request is served
@@ -28,3 +29,11 @@ abbrev pub StepsAreTurns : Type 0
 StepsAreTurns = (s : State) (turn : GuestTurn)
     → make_turn s turn
     ≡ then_single_steps turn.steps (make_turn s (record turn { steps = 0 }))
+
+-- each frame that a turn of this kind sends has 14 to 1,514 bytes
+abbrev pub SendsFrames : Kind → Type 0
+SendsFrames kind = (s : GuestState) (turn : GuestTurn) → All IsFrame (kind.sent s turn)
+
+-- so it is of every machine
+abbrev pub MachinesSendFrames : Type 0
+MachinesSendFrames = (m : MachineParts) → SendsFrames (machine_meaning m).kind

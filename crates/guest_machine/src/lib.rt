@@ -8,5 +8,5 @@ mod law;
 mod machine;
 
 pub use fault::BootFault;
-pub use law::steps_are_turns;
+pub use law::{frames_are_sent, steps_are_turns};
 pub use machine::Machine;
