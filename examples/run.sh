@@ -1,6 +1,6 @@
 #!/usr/bin/env bash
 # Runs the built `colo` on what the stored run doesn't show: a status other than 0, a demo image, and three C programs, of which
-# memory or the disk is checked afterwards. Where a tool is missing, one line says what was passed over.
+# memory or the disk is checked afterwards, and whose runs are made again by `solo`. Where a tool is missing, one line says what was passed over.
 # COLO names the program `colo`, if it is not the one built in crates/colo.
 set -eu
 cd "$(dirname "$0")"
@@ -48,8 +48,23 @@ ends 0 "lines 2 released 0 captured 0" replay out/mute.elf out/disk out/client o
 ends 1 usage replay out/mute.elf out/disk out/client out/turns out/run --ram 65
 ends 0 "turns 2" splice out/run.log out/run.single
 printf 'T 10 - 0 5\nT 20 - 0 7\n' | cmp - out/run.single
+ends 0 "turns 2 sent 0" solo out/mute.elf out/disk out/client out/run.single out/again
+cmp out/run.ram out/again.ram && cmp out/run.disk out/again.disk && cmp /dev/null out/again.sent
+printf 'T 10 - 0 5\nT 20 0 0 7\n' > out/frame.single
+ends 4 "line 2" solo out/mute.elf out/disk out/client out/frame.single out/stopped
+cat out/stopped.sent out/stopped.ram out/stopped.disk | cmp /dev/null -
 ends 7 "write failed" image mute missing/mute.elf
 echo "statuses and the demo image: as they must be"
+
+# again RUN IMAGE TURNS: `solo` makes the run that the log of `replay` names again, to the same memory and disk
+again() {
+    "$colo" splice "out/$1.log" "out/$1.single" > out/printed
+    [ "$(cat out/printed)" = "turns $3" ] || { echo "splice of $1: $(cat out/printed)" >&2; exit 1; }
+    "$colo" solo "$2" out/disk out/client "out/$1.single" "out/$1-again" > out/printed
+    grep -q "^turns $3 sent [0-9]*$" out/printed || { echo "solo of $1: $(cat out/printed)" >&2; exit 1; }
+    cmp "out/$1.ram" "out/$1-again.ram"
+    cmp "out/$1.disk" "out/$1-again.disk"
+}
 
 # build OUT SOURCE: the program with its start code, by GCC or by clang and lld
 build() {
@@ -74,15 +89,18 @@ head -c 512 /dev/zero > out/disk
 for _ in $(seq 40); do echo "P 250 0 0 10000"; done > out/schedule
 "$colo" replay out/work.elf out/disk out/client out/schedule out/run
 python3 check.py out/run.ram
+again run out/work.elf 40
 
 build out/devices.elf devices.c
 head -c 2048 /dev/zero > out/disk
 for _ in $(seq 200); do echo "P 250 1 4 2000"; done > out/schedule
 "$colo" replay out/devices.elf out/disk out/client out/schedule out/devices
 python3 check_devices.py out/devices.disk
+again devices out/devices.elf 200
 
 build out/ring.elf ring.c
 head -c 512 /dev/zero > out/disk
 for _ in $(seq 20); do echo "P 250 0 4 2000"; done > out/schedule
 "$colo" replay out/ring.elf out/disk out/client out/schedule out/ring
 python3 check_ring.py out/ring.ram
+again ring out/ring.elf 20

@@ -8,47 +8,60 @@ use Rattle.colo_top.specs.declared.fault.Fault.{Fault}
 use Rattle.colo_top.specs.declared.fault.Fault.TheVariants.{Usage, Refused, Read, Write, NoMemory}
 use Rattle.colo_top.specs.declared.fault.Refusal.{Refusal}
 use Rattle.colo_top.specs.declared.fault.Refusal.TheVariants.{BadImage, BadDisk, BadLine, BadClient, NotBuilt}
-use Rattle.colo_top.specs.Command.{out_of, outputs_of, reads}
+use Rattle.colo_top.specs.Command.{out_of, outputs_of, reads, run_reads}
 use Rattle.colo_top.specs.Files.{IsFileOf, KeepsFiles, WritesOnly}
 use Rattle.colo_top.specs.Outcome.{IsDone, IsCutOff, Judges, Stops, IsUntouched, FailsBy, Fails, Succeeds}
-use Rattle.colo_top.specs.Reading.{IsMissing, Texts}
+use Rattle.colo_top.specs.Reading.{AreRead, IsMissing, Texts}
 use Rattle.colo_top.specs.Replay.{Prepared, Start}
+use Rattle.colo_top.specs.Solo.{SoloPrepared}
 use Rattle.colo_top.specs.Status.{status, line, refusal_status, refusal_line}
-use Rattle.colo_top.specs.Tests.{Finds, TestRun, TestSchedule, TestLog}
+use Rattle.colo_top.specs.Tests.{Finds, TestRun, TestSchedule, TestLog, TestSingle}
 use Rattle.colo_top.specs.Top.{Call, Prints, Means, EndsBy, Gives, OnMissing, OnRefusal, OnStop, OnCompletion, NothingAgainst, IsWritten, Ends}
-use Rattle.colo_top.specs.Words.{Command, replay_command, splice_command, image_command, RunWords, read_words}
+use Rattle.colo_top.specs.Words.{Command, replay_command, solo_command, splice_command, image_command, RunWords, read_words}
 use Rattle.colo_top.proofs.BootLemmas.{start_none}
 use Rattle.colo_top.proofs.SameLemmas.{same_file, same_texts}
-use Rattle.colo_top.proofs.TestLemmas.{One, some_none, one_refusal, one_schedule_test, one_log_test, one_run, schedule_none}
+use Rattle.colo_top.proofs.StopLemmas.{made_has_no_stop, one_place}
+use Rattle.colo_top.proofs.TestLemmas.{One, some_none, one_refusal, one_schedule_test, one_log_test, one_single_test, one_run, schedule_none, single_none}
 
 -- ---- one judgement
 
 no_bytes : (o : Option (List ℕ)) (bytes : List ℕ) → o ≡ Some bytes → o ≡ None → ⊥
 no_bytes o bytes p q = cc
 
+-- the files that a run read were there
+run_there : (c : RunWords) (s : ShelfState) (texts : Texts) → IsTrue s.observable → AreRead s c texts
+    → IsMissing s (run_reads c) → ⊥
+run_there c s texts seen read (inl none) = no_bytes (s.contents c.image) texts.image (read.image seen) none
+run_there c s texts seen read (inr (inl none)) = no_bytes (s.contents c.disk) texts.disk (read.disk seen) none
+run_there c s texts seen read (inr (inr (inl none))) =
+    no_bytes (s.contents c.client) texts.client (read.client seen) none
+run_there c s texts seen read (inr (inr (inr (inl none)))) =
+    no_bytes (s.contents c.lines) texts.lines (read.lines seen) none
+run_there c s texts seen read (inr (inr (inr (inr none)))) = none
+
 -- what was judged was there
 judged_there : (command : Command) (s : ShelfState) (found : Option Refusal) → IsTrue s.observable
     → Judges command s found → IsMissing s (reads command) → ⊥
-judged_there (replay_command c) s found seen (texts, read, p) (inl none) =
-    no_bytes (s.contents c.image) texts.image (read.image seen) none
-judged_there (replay_command c) s found seen (texts, read, p) (inr (inl none)) =
-    no_bytes (s.contents c.disk) texts.disk (read.disk seen) none
-judged_there (replay_command c) s found seen (texts, read, p) (inr (inr (inl none))) =
-    no_bytes (s.contents c.client) texts.client (read.client seen) none
-judged_there (replay_command c) s found seen (texts, read, p) (inr (inr (inr (inl none)))) =
-    no_bytes (s.contents c.lines) texts.lines (read.lines seen) none
-judged_there (replay_command c) s found seen (texts, read, p) (inr (inr (inr (inr none)))) = none
+judged_there (replay_command c) s found seen (texts, read, p) missing = run_there c s texts seen read missing
+judged_there (solo_command c) s found seen (texts, read, p) missing = run_there c s texts seen read missing
 judged_there (splice_command c) s found seen (text, read, p) (inl none) =
     no_bytes (s.contents c.log) text (read seen) none
 judged_there (splice_command c) s found seen (text, read, p) (inr none) = none
 judged_there (image_command c) s found seen p none = none
 
--- the tests find one thing
+-- the tests find one thing, of the files of a run too
+one_run_judgement : (c : RunWords) (s : ShelfState) (lines : List ℕ → Finds) → ((text : List ℕ) → One (lines text))
+    → IsTrue s.observable → (a b : Option Refusal) (t u : Texts) → AreRead s c t → TestRun c.mib (lines t.lines) t a
+    → AreRead s c u → TestRun c.mib (lines u.lines) u b → a ≡ b
+one_run_judgement c s lines one seen a b t u read p again q =
+    let P : Texts → Type 0 = λ x. TestRun c.mib (lines x.lines) x a in
+    one_run c.mib (lines u.lines) u (one u.lines) a b (subst P (same_texts s c t u seen read again) p) q
+
 one_judgement : (command : Command) (s : ShelfState) → IsTrue s.observable → One (λ found. Judges command s found)
 one_judgement (replay_command c) s seen a b (t, read, p) (u, again, q) =
-    let P : Texts → Type 0 = λ x. TestRun c.mib (TestSchedule x.lines) x a in
-    one_run c.mib (TestSchedule u.lines) u (one_schedule_test u.lines) a b
-    (subst P (same_texts s c t u seen read again) p) q
+    one_run_judgement c s (λ text. TestSchedule text) one_schedule_test seen a b t u read p again q
+one_judgement (solo_command c) s seen a b (t, read, p) (u, again, q) =
+    one_run_judgement c s (λ text. TestSingle text) one_single_test seen a b t u read p again q
 one_judgement (splice_command c) s seen a b (t, read, p) (u, again, q) =
     let P : List ℕ → Type 0 = λ text. TestLog text a in
     one_log_test u a b (subst P (same_file s c.log t u seen read again) p) q
@@ -66,34 +79,45 @@ prepared_judged c s p =
     let t = p.start.texts in
     (t, p.start.read, start_judged c s (TestSchedule t.lines) p.start (schedule_none t.lines p.turns p.schedule))
 
+single_judged : (c : RunWords) (s : ShelfState) → SoloPrepared c s → Judges (solo_command c) s None
+single_judged c s p =
+    let t = p.start.texts in
+    (t, p.start.read, start_judged c s (TestSingle t.lines) p.start (single_none t.lines p.turns p.single))
+
 done_judged : (command : Command) (old new : ShelfState) (text : List ℕ) → IsDone command old new text
     → Judges command old None
 done_judged (replay_command c) old new text work = prepared_judged c old work.prepared
+done_judged (solo_command c) old new text work = single_judged c old work.prepared
 done_judged (splice_command c) old new text work =
     (work.from.text, work.from.read, inr (work.from.log, work.from.spelled, refl))
 done_judged (image_command c) old new text work = refl
 
 cut_judged : (command : Command) (old new : ShelfState) → IsCutOff command old new → Judges command old None
 cut_judged (replay_command c) old new work = prepared_judged c old work.prepared
+cut_judged (solo_command c) old new work = single_judged c old work.prepared
 cut_judged (splice_command c) old new work =
     (work.from.text, work.from.read, inr (work.from.log, work.from.spelled, refl))
 cut_judged (image_command c) old new work = refl
 
 stop_judged : (command : Command) (s : ShelfState) (refusal : Refusal) → Stops command s refusal → Judges command s None
 stop_judged (replay_command c) s refusal stop = absurd stop
+stop_judged (solo_command c) s refusal stop = single_judged c s stop.prepared
 stop_judged (splice_command c) s refusal stop = absurd stop
 stop_judged (image_command c) s refusal stop = absurd stop
 
 -- ---- what stops a run
 
-one_stop : (command : Command) (s : ShelfState) (a b : Refusal) → Stops command s a → Stops command s b → a ≡ b
-one_stop (replay_command c) s a b p q = absurd p
-one_stop (splice_command c) s a b p q = absurd p
-one_stop (image_command c) s a b p q = absurd p
+one_stop : (command : Command) (s : ShelfState) → IsTrue s.observable → (a b : Refusal) → Stops command s a
+    → Stops command s b → a ≡ b
+one_stop (replay_command c) s seen a b p q = absurd p
+one_stop (solo_command c) s seen a b p q = one_place c s seen a b p q
+one_stop (splice_command c) s seen a b p q = absurd p
+one_stop (image_command c) s seen a b p q = absurd p
 
 done_stop : (command : Command) (old new : ShelfState) (text : List ℕ) (refusal : Refusal) → IsTrue old.observable
     → IsDone command old new text → Stops command old refusal → ⊥
 done_stop (replay_command c) old new text refusal seen work stop = stop
+done_stop (solo_command c) old new text refusal seen work stop = made_has_no_stop c old new text refusal seen work stop
 done_stop (splice_command c) old new text refusal seen work stop = stop
 done_stop (image_command c) old new text refusal seen work stop = stop
 
@@ -265,7 +289,7 @@ module _ (call : Call) (command : Command) (spelled : read_words call.words ≡ 
       absurd (some_none found (one_judgement command old seen (Some found) None tests.found
       (stop_judged command old refusal stop)))
   stop_found (Refused found) (inr run) is refusal seen stop =
-      inl (is ∙ ap refusal_status (one_stop command old found refusal run.stop stop))
+      inl (is ∙ ap refusal_status (one_stop command old seen found refusal run.stop stop))
   stop_found Read why is refusal seen stop = inr (inl is)
   stop_found Write why is refusal seen stop = inr (inr (inl is))
   stop_found NoMemory why is refusal seen stop = inr (inr (inr is))

@@ -11,3 +11,5 @@ pub mod FileLemmas
 pub mod RunLemmas
 pub mod ReplayLemmas
 pub mod EndLemmas
+pub mod StopLemmas
+pub mod SoloLemmas

@@ -4,11 +4,12 @@ use Rattle.disk_buffers.specs.Sectors.{is_length}
 use Rattle.elf_load.specs.Boot.{elf_case}
 use Rattle.guest_machine.specs.Boot.{ram_size}
 use Rattle.replay_log.specs.Cases.{BadLine as LineCase, first_bad}
-use Rattle.replay_log.specs.Forms.{log_forms, schedule_forms}
-use Rattle.replay_log.specs.Texts.{IsLog, IsSchedule, log_items}
+use Rattle.replay_log.specs.Forms.{log_forms, schedule_forms, single_forms}
+use Rattle.replay_log.specs.Texts.{IsLog, IsSchedule, IsSingle, log_items}
 use Rattle.replay_log.specs.declared.items.Item.TheVariants as item
 use Rattle.replay_log.specs.declared.lines.Line.{Line}
 use Rattle.replay_log.specs.declared.records.Record.{Record}
+use Rattle.replay_log.specs.declared.turns.Turn.{Turn as SingleTurn}
 use Rattle.replay_log.proofs.LawLemmas.{one_schedule}
 use Rattle.replay_log.proofs.TextLemmas.{none_bad}
 use Rattle.sock_link.specs.Stream.{IsSplit}
@@ -21,7 +22,7 @@ use Rattle.colo_top.specs.declared.schedule.Turn.{Turn}
 use Rattle.colo_top.specs.Reading.{Texts}
 use Rattle.colo_top.specs.RunSteps.{FailsTest}
 use Rattle.colo_top.specs.Schedule.{IsTurnSchedule, line_of}
-use Rattle.colo_top.specs.Tests.{Finds, Then, TestImage, TestDisk, rest_fault, TestClient, FindsBadLine, TestSchedule, TestLog, TestMachine, TestRun, TestStart}
+use Rattle.colo_top.specs.Tests.{Finds, Then, TestImage, TestDisk, rest_fault, TestClient, FindsBadLine, TestSchedule, TestLog, TestSingle, TestMachine, TestRun, TestStart}
 
 -- ---- one thing
 
@@ -70,6 +71,11 @@ no_bad_log : (text : List ℕ) (log : List Record) (a : Option Refusal) → IsLo
 no_bad_log text log a good bad =
     good_bad (first_bad log_forms text) a (none_bad log_forms (log_items log) text good) bad
 
+no_bad_single : (text : List ℕ) (turns : List SingleTurn) (a : Option Refusal) → IsSingle turns text
+    → FindsBadLine single_forms text a → ⊥
+no_bad_single text turns a good bad =
+    good_bad (first_bad single_forms text) a (none_bad single_forms (map item.Turn turns) text good) bad
+
 pub one_schedule_test : (text : List ℕ) → One (TestSchedule text)
 one_schedule_test text a b (inl p) (inl q) = same_bad (first_bad schedule_forms text) a b p q
 one_schedule_test text a b (inl p) (inr (inl (lines, good, other, eb))) = absurd (no_bad_schedule text lines a good p)
@@ -90,6 +96,12 @@ one_log_test text a b (inl p) (inl q) = same_bad (first_bad log_forms text) a b 
 one_log_test text a b (inl p) (inr (log, good, eb)) = absurd (no_bad_log text log a good p)
 one_log_test text a b (inr (log, good, ea)) (inl q) = absurd (no_bad_log text log b good q)
 one_log_test text a b (inr (log, good, ea)) (inr (more, fine, eb)) = ea ∙ sym eb
+
+pub one_single_test : (text : List ℕ) → One (TestSingle text)
+one_single_test text a b (inl p) (inl q) = same_bad (first_bad single_forms text) a b p q
+one_single_test text a b (inl p) (inr (turns, good, eb)) = absurd (no_bad_single text turns a good p)
+one_single_test text a b (inr (turns, good, ea)) (inl q) = absurd (no_bad_single text turns b good q)
+one_single_test text a b (inr (turns, good, ea)) (inr (more, fine, eb)) = ea ∙ sym eb
 
 pub one_run : (mib : ℕ) (lines : Finds) (texts : Texts) → One lines → One (TestRun mib lines texts)
 one_run mib lines texts h =
@@ -127,3 +139,6 @@ client_none client frames split = (frames, [], split, refl)
 
 pub schedule_none : (text : List ℕ) (turns : List Turn) → IsTurnSchedule turns text → TestSchedule text None
 schedule_none text turns good = inr (inr (turns, good, refl))
+
+pub single_none : (text : List ℕ) (turns : List SingleTurn) → IsSingle turns text → TestSingle text None
+single_none text turns good = inr (turns, good, refl)

@@ -6,13 +6,14 @@ use Rattle.std.specs.Str.{bytes_eq}
 use Rattle.colo_base.specs.Count.{Increased}
 use Rattle.colo_base.specs.Shelf.{ShelfState, ChangesOnly, NoFetchFailed}
 use Rattle.colo_top.specs.declared.output.Output.{Output}
-use Rattle.colo_top.specs.declared.output.Output.TheVariants.{Log, Released, Wire, Ram, Disk, Named}
+use Rattle.colo_top.specs.declared.output.Output.TheVariants.{Log, Released, Wire, Sent, Ram, Disk, Named}
 
 -- what a file's name ends with
 abbrev pub ending : Output → List ℕ
 ending Log = codes ".log"
 ending Released = codes ".released"
 ending Wire = codes ".wire"
+ending Sent = codes ".sent"
 ending Ram = codes ".ram"
 ending Disk = codes ".disk"
 ending Named = []

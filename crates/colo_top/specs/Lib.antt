@@ -13,5 +13,7 @@ pub mod OneFile
 pub mod Tests
 pub mod Replay
 pub mod Splice
+pub mod Solo
+pub mod SoloSteps
 pub mod Outcome
 pub mod Top

@@ -7,14 +7,15 @@ use Rattle.shared_definitions.specs.Ascii.{newline}
 use Rattle.colo_top.specs.declared.fault.Fault.{Fault}
 use Rattle.colo_top.specs.declared.fault.Fault.TheVariants.{Usage, Refused, Read, Write, NoMemory}
 use Rattle.colo_top.specs.declared.fault.Refusal.{Refusal}
-use Rattle.colo_top.specs.Command.{reads, out_of, outputs_of}
-use Rattle.colo_top.specs.Files.{HasFile, KeepsFiles, WriteFailed, WritesOnly}
+use Rattle.colo_top.specs.Command.{reads, out_of, outputs_of, solo_outputs}
+use Rattle.colo_top.specs.Files.{empty_files, HasFile, HasFiles, KeepsFiles, WriteFailed, WritesOnly}
 use Rattle.colo_top.specs.OneFile.{FileCutOff, HasOneFile}
 use Rattle.colo_top.specs.Reading.{AreRead, FetchFailed, Texts}
 use Rattle.colo_top.specs.Replay.{ReplayDone, ReplayCutOff}
+use Rattle.colo_top.specs.Solo.{SoloDone, SoloCutOff, SoloStops}
 use Rattle.colo_top.specs.Splice.{SpliceDone, SpliceCutOff}
-use Rattle.colo_top.specs.Tests.{TestLog, TestRun, TestSchedule}
-use Rattle.colo_top.specs.Words.{Command, replay_command, splice_command, image_command, ImageWords, read_words}
+use Rattle.colo_top.specs.Tests.{TestLog, TestRun, TestSchedule, TestSingle}
+use Rattle.colo_top.specs.Words.{Command, replay_command, solo_command, splice_command, image_command, ImageWords, read_words}
 
 -- ---- `image`: the image's bytes are written
 
@@ -49,6 +50,8 @@ pub record ImageCutOff (c : ImageWords) (old new : ShelfState) : Type 0 where
 abbrev pub Judges : Command → ShelfState → Option Refusal → Type 0
 Judges (replay_command c) shelf found =
     (texts : Texts) × AreRead shelf c texts × TestRun c.mib (TestSchedule texts.lines) texts found
+Judges (solo_command c) shelf found =
+    (texts : Texts) × AreRead shelf c texts × TestRun c.mib (TestSingle texts.lines) texts found
 Judges (splice_command c) shelf found =
     (text : List ℕ) × HasFile shelf c.log text × TestLog text found
 Judges (image_command c) shelf found = found ≡ None
@@ -56,24 +59,28 @@ Judges (image_command c) shelf found = found ≡ None
 -- its run comes to a place where this stops it
 abbrev pub Stops : Command → ShelfState → Refusal → Type 0
 Stops (replay_command c) shelf refusal = ⊥
+Stops (solo_command c) shelf refusal = SoloStops c shelf refusal
 Stops (splice_command c) shelf refusal = ⊥
 Stops (image_command c) shelf refusal = ⊥
 
--- what was written before such a stop
+-- what was written before such a stop: the files are there, and empty
 abbrev pub WrittenAtStop : Command → ShelfState → ShelfState → Type 0
 WrittenAtStop (replay_command c) old new = ⊥
+WrittenAtStop (solo_command c) old new = HasFiles new c.out (empty_files solo_outputs)
 WrittenAtStop (splice_command c) old new = ⊥
 WrittenAtStop (image_command c) old new = ⊥
 
 -- the work was done, and this is the line to put
 abbrev pub IsDone : Command → ShelfState → ShelfState → List ℕ → Type 0
 IsDone (replay_command c) old new line = ReplayDone c old new line
+IsDone (solo_command c) old new line = SoloDone c old new line
 IsDone (splice_command c) old new line = SpliceDone c old new line
 IsDone (image_command c) old new line = ImageDone c new line
 
 -- the work was cut off while files were created or written
 abbrev pub IsCutOff : Command → ShelfState → ShelfState → Type 0
 IsCutOff (replay_command c) old new = ReplayCutOff c old new
+IsCutOff (solo_command c) old new = SoloCutOff c old new
 IsCutOff (splice_command c) old new = SpliceCutOff c old new
 IsCutOff (image_command c) old new = ImageCutOff c old new
 
@@ -91,12 +98,13 @@ pub record FailsTests (command : Command) (old new : ShelfState) (refusal : Refu
   pub found : Judges command old (Some refusal)
   pub files : IsUntouched old new
 
--- the run was stopped after files were created
+-- the run was stopped after files were created, and no call failed
 pub record FailsInRun (command : Command) (old new : ShelfState) (refusal : Refusal)
     : Type 0 where
   pub stop : Stops command old refusal
   pub files : WrittenAtStop command old new
   pub change : WritesOnly (out_of command) (outputs_of command) old new
+  pub writes : NoWriteFailed old new
 
 -- a fetch failed before any file was created
 pub record FailsToRead (command : Command) (old new : ShelfState) : Type 0 where

@@ -4,11 +4,12 @@ use Rattle.disk_buffers.specs.Sectors.{is_length}
 use Rattle.elf_load.specs.Boot.{elf_case}
 use Rattle.guest_machine.specs.Boot.{ram_size}
 use Rattle.replay_log.specs.Cases.{first_bad}
-use Rattle.replay_log.specs.Forms.{log_forms, schedule_forms}
-use Rattle.replay_log.specs.Texts.{IsLog, IsSchedule}
+use Rattle.replay_log.specs.Forms.{log_forms, schedule_forms, single_forms}
+use Rattle.replay_log.specs.Texts.{IsLog, IsSchedule, IsSingle}
 use Rattle.replay_log.specs.declared.forms.Form.{Form}
 use Rattle.replay_log.specs.declared.lines.Line.{Line}
 use Rattle.replay_log.specs.declared.records.Record.{Record}
+use Rattle.replay_log.specs.declared.turns.Turn.{Turn as SingleTurn}
 use Rattle.sock_link.specs.Stream.{IsSplit, stream_of}
 use Rattle.colo_top.specs.declared.fault.Refusal.{Refusal}
 use Rattle.colo_top.specs.declared.fault.Refusal.TheVariants.{BadImage, BadDisk, BadLine, BadClient, NotBuilt}
@@ -62,6 +63,12 @@ TestSchedule text found =
 abbrev pub TestLog : List ℕ → Finds
 TestLog text found =
     FindsBadLine log_forms text found ⊎ ((log : List Record) × IsLog log text × (found ≡ None))
+
+-- a single run: its first bad line
+abbrev pub TestSingle : List ℕ → Finds
+TestSingle text found =
+    FindsBadLine single_forms text found
+    ⊎ ((turns : List SingleTurn) × IsSingle turns text × (found ≡ None))
 
 -- what a machine is made of: the image, and then the disk
 abbrev pub TestMachine : ℕ → List ℕ → List ℕ → Finds

@@ -28,9 +28,11 @@ pub record ImageWords : Type 0 where
   pub name : List ℕ
   pub out : List ℕ
 
--- a command; `replay IMAGE DISK CLIENT SCHEDULE OUT` is a run
+-- a command; `replay IMAGE DISK CLIENT SCHEDULE OUT` and `solo IMAGE DISK CLIENT SINGLE OUT` are
+-- runs
 pub data Command : Type 0 where
   replay_command : RunWords → Command
+  solo_command : RunWords → Command
   splice_command : SpliceWords → Command
   image_command : ImageWords → Command
 
@@ -102,9 +104,10 @@ read_image _ = None
 abbrev pub read_verb : List ℕ → List (List ℕ) → Option Command
 read_verb verb words =
     if bytes_eq verb (codes "replay") then option_map replay_command (read_run words)
+    else (if bytes_eq verb (codes "solo") then option_map solo_command (read_run words)
     else (if bytes_eq verb (codes "splice") then option_map splice_command (read_splice words)
     else (if bytes_eq verb (codes "image") then option_map image_command (read_image words)
-    else None))
+    else None)))
 
 -- the command that the words spell; None where they spell none
 abbrev pub read_words : List (List ℕ) → Option Command

@@ -11,6 +11,8 @@ mod parts;
 mod prepare;
 mod run;
 mod schedule;
+mod single_run;
+mod solo;
 mod splice;
 mod top;
 mod words;

@@ -17,6 +17,8 @@ pub enum Output {
     Released,
     /// The messages delivered between the nodes, each after its direction.
     Wire,
+    /// The frames that a single run sent, each after its length.
+    Sent,
     /// The memory after the run.
     Ram,
     /// The disk after the run.
@@ -34,6 +36,9 @@ pub const REPLAY_OUTPUTS: [Output; 5] = [
     Output::Disk,
 ];
 
+/// The files of a single run, in that order.
+pub const SOLO_OUTPUTS: [Output; 3] = [Output::Sent, Output::Ram, Output::Disk];
+
 /// The one file of a command that names it.
 pub const NAMED_OUTPUTS: [Output; 1] = [Output::Named];
 
@@ -45,6 +50,7 @@ fn ending_of(output: Output) -> &'static str
         Output::Log => ".log",
         Output::Released => ".released",
         Output::Wire => ".wire",
+        Output::Sent => ".sent",
         Output::Ram => ".ram",
         Output::Disk => ".disk",
         Output::Named => "",

@@ -1,6 +1,7 @@
 //! The top call over files in memory: what worked runs leave, and each status with its line.
 
 mod programs;
+mod single_runs;
 
 use crate::colo;
 use colo_base::{MemoryLink, MemoryShelf, MemorySink, NoMemory, ScriptClock};
@@ -262,13 +263,24 @@ const FAILOVER: &str = "c : 0 - 0 0\nP 1 1 0 0 : 0 0\n> : 1\n> : 2\nS 2 1 0 0 : 
 < : 12 0 0\n< : 13 1 1\nP 6 0 0 0 : - 0\nS 7 0 0 0 : - 0\n< : 13 2 1\n! q 1 differ\nP 1 0 0 0 : -\n\
 > : 3\n> : 4\n> : 9\n> : 10\nx p : 0\nr : 2\n";
 
+/// The same after the secondary took the checkpoint: the primary's turns before it are left.
+const LATER_FAILOVER: &str = "c : 0 - 0 0\nP 1 1 0 0 : 0 0\n> : 1\n> : 2\nS 2 1 0 0 : 0 0\n\
+< : 12 0 0\n< : 13 1 1\nP 6 0 0 0 : - 0\nS 7 0 0 0 : - 0\n< : 13 2 1\n! q 1 differ\nP 1 0 0 0 : -\n\
+> : 3\n> : 4\n> : 9\n> : 10\n> : 11\n! k 1\nx p : 0\nr : 2\n";
+
 #[test]
 fn a_log_is_spliced(rt: HostRuntime) -> Result<(), Fail> {
     let mut shelf = MemoryShelf::new(rt.alloc());
-    shelf.set("log", FAILOVER.as_bytes())?;
     let words = ["splice", "log", "single"];
-    ends(&rt, &words, &mut shelf, 0, "turns 2\n")?;
-    assert!(rt; has(&shelf, "single", b"T 2 0 0 0\nT 7 - 0 0\n"));
+    let logs = [
+        (FAILOVER, "T 2 0 0 0\nT 7 - 0 0\n"),
+        (LATER_FAILOVER, "T 1 0 0 0\nT 6 - 0 0\n"),
+    ];
+    for (log, single) in logs {
+        shelf.set("log", log.as_bytes())?;
+        ends(&rt, &words, &mut shelf, 0, "turns 2\n")?;
+        assert!(rt; has(&shelf, "single", single.as_bytes()), "{single}");
+    }
     shelf.set("log", b"! q 1 differ\n")?;
     ends(&rt, &words, &mut shelf, 4, "line 1\n")?;
     ends(

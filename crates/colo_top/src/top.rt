@@ -10,6 +10,7 @@ ghost use Rattle.colo_top.specs.Words.{texts};
 
 use crate::fault::Fault;
 use crate::run::replay;
+use crate::solo::solo;
 use crate::splice::splice;
 use crate::words::{Command, read_words};
 use crate::write_image::write_image;
@@ -22,17 +23,20 @@ use std::alloc::Global;
 ///
 /// - `replay IMAGE DISK CLIENT SCHEDULE OUT` boots the ELF file IMAGE with the disk DISK, runs the
 ///   primary turns of SCHEDULE, and writes `OUT.log`, `OUT.released`, `OUT.wire`, `OUT.ram` and `OUT.disk`.
+/// - `solo IMAGE DISK CLIENT SINGLE OUT` boots the same machine, makes the turns of the single run
+///   SINGLE with the frames of CLIENT that they name, and writes `OUT.sent`, `OUT.ram` and
+///   `OUT.disk`.
 /// - `splice LOG SINGLE` writes the single run that LOG names to the file SINGLE.
 /// - `image NAME OUT` writes a demo image to the file OUT; NAME is `mute`, `echo`, `clocked` or
 ///   `disk_log`.
 ///
 /// | Status | Comes | Printed |
 /// |---|---|---|
-/// | 0 | else | `lines L released R captured C`; of `splice` `turns T`; of `image` `bytes B` |
+/// | 0 | else | `lines L released R captured C`; of `solo` `turns T sent F`; of `splice` `turns T`; of `image` `bytes B` |
 /// | 1 | exactly where the words spell no command | `usage` |
 /// | 2 | where a case of the loader holds of the image, the first | `image: K` |
 /// | 3 | where no disk has the length of DISK | `disk: LENGTH` |
-/// | 4 | where the schedule or the log has a bad line, the first | `line N` |
+/// | 4 | where the schedule, the single run or the log has a bad line, the first; or where a turn of `solo` names a frame that isn't there, isn't accepted or can't be received | `line N` |
 /// | 5 | where the client stream has a length above 69,632 or ends within a record | `client: BYTE`, where that record begins |
 /// | 6 | only where fetching a file failed | `read failed` |
 /// | 7 | only where creating or appending to a file failed, or putting the summary | `write failed` |
@@ -42,6 +46,7 @@ use std::alloc::Global;
 /// Options follow the other words: `--ram N` for N MiB of memory, 1 to 64, in the place of 16.
 ///
 /// The tests stand in the order 1, 6, 2, 3, 5, 4, 9. Before the files are created nothing changes.
+/// A turn of `solo` without its frame comes afterwards, and leaves them empty.
 /// A put that fails is the last. Only a command that is online uses the link and the clock, and there is
 /// none yet.
 pub fn colo<S: Shelf, L: Link, K: Clock, O: Sink>(
@@ -76,6 +81,7 @@ fn run_command<S: Shelf>(alloc: Global, words: &[String], shelf: &mut S) -> Resu
     match read_words(words) {
         None => Err(Fault::Usage),
         Some(Command::Replay(words)) => replay(alloc, shelf, &words),
+        Some(Command::Solo(words)) => solo(alloc, shelf, &words),
         Some(Command::Splice(words)) => splice(alloc, shelf, &words),
         Some(Command::WriteImage(words)) => write_image(alloc, shelf, &words),
     }

@@ -54,6 +54,8 @@ pub struct WriteImage<'a> {
 pub enum Command<'a> {
     /// Runs a schedule.
     Replay(Run<'a>),
+    /// Makes a single run again.
+    Solo(Run<'a>),
     /// Writes the single run that a log names.
     Splice(Splice<'a>),
     /// Writes a demo image.
@@ -170,6 +172,8 @@ fn read_verb<'a>(verb: &str, words: &'a [String]) -> Option<Command<'a>>
 {
     if is_word(verb, "replay") {
         Some(Command::Replay(read_run(words)?))
+    } else if is_word(verb, "solo") {
+        Some(Command::Solo(read_run(words)?))
     } else if is_word(verb, "splice") {
         Some(Command::Splice(read_splice(words)?))
     } else if is_word(verb, "image") {
