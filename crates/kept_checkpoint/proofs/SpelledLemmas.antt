@@ -17,7 +17,7 @@ over_put (old ∷ olds) (s ∷ ss) zero x e = refl
 over_put (old ∷ olds) (s ∷ ss) (suc k) x e =
     ap (λ (xs : List (List ℕ)). unwrap_or s old ∷ xs) (over_put olds ss k x (omega (arith, e)))
 
-sectors_length : (first n : ℕ) (bytes : List ℕ) (slots : Slots) →
+pub sectors_length : (first n : ℕ) (bytes : List ℕ) (slots : Slots) →
     length (put_sectors first bytes n slots) ≡ length slots
 unfolding put_sectors
 sectors_length first zero bytes slots = refl

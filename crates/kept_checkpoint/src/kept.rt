@@ -236,8 +236,8 @@ impl KeptCheckpoint {
     }
 }
 
-/// Puts a frame last, for which there is room.
-fn hold(inbox: &mut Inbox, waiting: Waiting)
+/// Puts a frame last, for which there is room. It takes no memory.
+pub fn hold(inbox: &mut Inbox, waiting: Waiting)
     requires room { length inbox.old < INBOX_ROOM }
     requires segment { IsSome (tcp_in waiting.frame) }
     requires segments { AreSegments inbox.old }

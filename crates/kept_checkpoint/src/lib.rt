@@ -14,6 +14,6 @@ mod loading;
 mod slots;
 
 pub use accepted::is_accepted;
-pub use kept::{KeptCheckpoint, Tables};
+pub use kept::{KeptCheckpoint, Tables, hold};
 pub use lines::LastLine;
 pub use slots::Slots;

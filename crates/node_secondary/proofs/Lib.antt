@@ -1,1 +1,4 @@
+pub mod ReadingLemmas
 pub mod TurnLemmas
+pub mod HearingLemmas
+pub mod RunLemmas

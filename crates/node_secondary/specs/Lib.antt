@@ -1,3 +1,6 @@
 pub mod Node
 pub mod Outboxes
 pub mod Turns
+pub mod Hearing
+pub mod Answers
+pub mod Calls

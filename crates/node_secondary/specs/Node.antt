@@ -1,14 +1,15 @@
 -- A secondary as plain data: its guest, what its guest has sent, the numbers that it keeps, the
 -- frames and messages that wait, and what it has heard of a checkpoint that isn't whole yet.
-use Rattle.std.specs.Prelude.{ℕ, Bool, IsSome, List}
-use Rattle.std.specs.List.{AllByRecursion}
-use Rattle.inet_frame.specs.Counted.{tcp_in}
+use Rattle.std.specs.Prelude.{ℕ, Bool, IsTrue, List, ⊤}
 use Rattle.tcp_track.specs.Tracking.{Tracking}
 use Rattle.seq_rewriter.specs.Kept.{KeptNumbers}
 use Rattle.frame_mirror.specs.declared.ring.Waiting.{Waiting}
-use Rattle.state_wire.specs.Guest.{Meaning}
+use Rattle.state_wire.specs.Guest.{Kind, Meaning}
+use Rattle.node_secondary.specs.declared.under_way.UnderWay.{UnderWay}
+use Rattle.node_secondary.specs.declared.under_way.UnderWay.TheVariants.{Nothing, Begun, Heard}
 
--- a secondary with a guest of any type
+-- a secondary with a guest of any type; `committed` is the number of the last checkpoint, 0 where
+-- there was none
 pub record Held (G : Type 0) : Type 0 where
   pub guest : G
   pub inbox : List Waiting
@@ -16,6 +17,7 @@ pub record Held (G : Type 0) : Type 0 where
   pub numbers : KeptNumbers
   pub waits : List (List ℕ)
   pub committed : ℕ
+  pub under_way : UnderWay
   pub spent : Bool
 
 -- the same with what the guest means
@@ -26,6 +28,7 @@ pub record Node : Type 0 where
   pub numbers : KeptNumbers
   pub waits : List (List ℕ)
   pub committed : ℕ
+  pub under_way : UnderWay
 
 abbrev pub node_of : {G : Type 0} → (G → Meaning) → Held G → Node
 node_of meaning held = record {
@@ -35,8 +38,11 @@ node_of meaning held = record {
   numbers = held.numbers;
   waits = held.waits;
   committed = held.committed;
+  under_way = held.under_way;
 }
 
--- each frame is a TCP segment
-abbrev pub AreSegments : List Waiting → Type 0
-AreSegments inbox = AllByRecursion (λ w. IsSome (tcp_in w.frame)) inbox
+-- guests of the kind accept the state that was heard
+abbrev pub IsLoadable : Kind → UnderWay → Type 0
+IsLoadable kind Nothing = ⊤
+IsLoadable kind Begun = ⊤
+IsLoadable kind (Heard kept) = IsTrue (kind.accepts kept.state)

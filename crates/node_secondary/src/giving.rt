@@ -5,7 +5,7 @@ ghost use Rattle.std.specs.Option.{ForSome, option_copied, option_map};
 ghost use Rattle.inet_frame.specs.Counted.{tcp_in};
 ghost use Rattle.tcp_track.specs.Tracking.{current_at};
 ghost use Rattle.state_wire.specs.Guest.{IsFrame};
-ghost use Rattle.node_secondary.specs.Node.{AreSegments};
+ghost use Rattle.kept_checkpoint.specs.Accepted.{AreSegments};
 ghost use Rattle.node_secondary.specs.Turns.{current_for, given_frame, left_frames, taken_frame};
 
 use frame_mirror::{Inbox, Waiting};

@@ -2,9 +2,15 @@
 //! what it sends.
 #![tactic(auto)]
 
+mod due;
 mod giving;
+mod hearing;
+pub mod law;
 mod node;
 mod outbox;
+mod parts;
+mod reading;
 mod telling;
+mod under_way;
 
 pub use node::Secondary;

@@ -7,11 +7,13 @@ ghost use Rattle.tcp_track.specs.Tracking.{nothing_tracked, taken};
 ghost use Rattle.colo_wire.specs.declared.answers.Turned.TheVariants as turned;
 ghost use Rattle.node_secondary.specs.Node.{node_of};
 ghost use Rattle.node_secondary.specs.Outboxes.{TakesFirst};
+ghost use Rattle.node_secondary.specs.declared.under_way.UnderWay.TheVariants as under_way;
 ghost use Rattle.node_secondary.specs.Turns.{frame_taken, make_turn, sent_messages, takes};
 
 use crate::giving::{bytes_of, take_frame};
 use crate::outbox::Outbox;
 use crate::telling::tell_all;
+use crate::under_way::UnderWay;
 use colo_base::{Cause, Frames, NoMemory};
 use colo_wire::Turned;
 use frame_mirror::Inbox;
@@ -26,18 +28,21 @@ use tcp_track::Tracker;
 /// After `NoMemory` it is spent: each later call that can answer `NoMemory` does.
 #[derive(Drop)]
 pub struct Secondary<G: Guest + Drop> {
-    guest: G,
-    inbox: Inbox,
-    lines: Tracker,
-    numbers: Numbers,
-    waits: Outbox,
-    committed: u32,
-    spent: bool,
-    alloc: Global,
+    pub(crate) guest: G,
+    pub(crate) inbox: Inbox,
+    pub(crate) lines: Tracker,
+    pub(crate) numbers: Numbers,
+    pub(crate) waits: Outbox,
+    pub(crate) committed: u32,
+    pub(crate) under_way: UnderWay,
+    pub(crate) spent: bool,
+    pub(crate) alloc: Global,
 }
 
 impl<G: Guest + Drop> Model for Secondary<G> {
-    ghost use Rattle.node_secondary.specs.Node.{Held, AreSegments};
+    ghost use Rattle.std.specs.Prelude.{◌≡◌};
+    ghost use Rattle.kept_checkpoint.specs.Accepted.{AreSegments};
+    ghost use Rattle.node_secondary.specs.Node.{Held, IsLoadable};
 
     ghost Value = { Held G };
 
@@ -48,10 +53,12 @@ impl<G: Guest + Drop> Model for Secondary<G> {
       numbers = s.numbers;
       waits = s.waits;
       committed = s.committed;
+      under_way = s.under_way;
       spent = s.spent;
     } };
 
-    ghost invariant = { λ s. AreSegments s.inbox };
+    ghost invariant = { λ s. AreSegments s.inbox
+        × IsLoadable (G.meaning s.guest).kind s.under_way };
 }
 
 /// Whether the guest takes a frame, where one is wanted.
@@ -80,6 +87,7 @@ fn turn_guest<G: Guest + Drop>(
         (turn_of turn.0 (option_copied frame.entry) turn.1 turn.2))) }
     ensures waits { OnOk result (waits.new ≡ waits.old ++ sent_messages (sent_in
         (G.meaning guest.old) (turn_of turn.0 (option_copied frame.entry) turn.1 turn.2))) }
+    ensures kind { (G.meaning guest.new).kind ≡ (G.meaning guest.old).kind }
 {
     let mut sent = Frames::new(alloc);
     guest.turn(turn.0, frame, turn.1, turn.2, &mut sent)?;
@@ -96,6 +104,7 @@ impl<G: Guest + Drop> Secondary<G> {
           numbers = [];
           waits = [];
           committed = 0;
+          under_way = under_way.Nothing;
           spent = false;
         }) }
     {
@@ -107,6 +116,7 @@ impl<G: Guest + Drop> Secondary<G> {
             numbers: Numbers::new(alloc),
             waits: Outbox::new(alloc),
             committed: 0,
+            under_way: UnderWay::Nothing,
             spent: false,
             alloc,
         })
@@ -116,6 +126,7 @@ impl<G: Guest + Drop> Secondary<G> {
     /// given the oldest frame that waits; at most `b` block requests are served, and `n` steps are
     /// made. Each frame that the guest sends and that counts goes to the primary as a message, and
     /// none is released.
+    #[tactic(auto, using(crate::proofs::HearingLemmas::same_loadable))]
     pub fn turn(
         &mut self,
         d: u64,

@@ -8,8 +8,9 @@ ghost use Rattle.colo_wire.specs.declared.messages.Message.TheVariants as messag
 ghost use Rattle.node_secondary.specs.Turns.{sent_message, sent_messages};
 
 use crate::outbox::Outbox;
+use crate::parts::put_message;
 use colo_base::{Frames, NoMemory};
-use colo_wire::{Contents, Message, encode};
+use colo_wire::{Contents, Message};
 use inet_frame::counted;
 use std::alloc::Global;
 use tcp_track::Tracker;
@@ -23,9 +24,7 @@ fn tell_counted(alloc: Global, frame: &[u8], waits: &mut Outbox) -> Result<(), N
     let message = Message::Sent {
         frame: Contents::from_vec(frame.to_vec(alloc)?),
     };
-    let mut bytes = Vec::new(alloc);
-    encode(&message, &mut bytes)?;
-    waits.put(bytes)
+    put_message(alloc, &message, waits)
 }
 
 /// Puts a message about a frame, where it counts.

@@ -18,6 +18,7 @@ returns-in-Ok-clause-after g c =
       numbers = old.numbers;
       waits = old.waits;
       committed = old.committed;
+      under_way = old.under_way;
     } in
     let made = turn_made n t c.wants_frame-wants.result (option_copied c.bytes_of.result) (meaning c.turn_guest.new.guest)
     c.take_frame-given.new.inbox c.turn_guest.new.lines c.turn_guest.new.waits c.wants_frame-wants.ensures
