@@ -1,6 +1,7 @@
 #!/usr/bin/env bash
-# Runs the built `colo` on what the stored run doesn't show: a status other than 0, a demo image, and three C programs, of which
-# memory or the disk is checked afterwards, and whose runs are made again by `solo`. Where a tool is missing, one line says what was passed over.
+# Runs the built `colo` on what the stored run doesn't show: a status other than 0, a demo image, sessions with the demo servers, and
+# three C programs, of which memory or the disk is checked afterwards, and whose runs are made again by `solo`. Where a tool is missing,
+# one line says what was passed over.
 # COLO names the program `colo`, if it is not the one built in crates/colo.
 set -eu
 cd "$(dirname "$0")"
@@ -55,6 +56,12 @@ ends 4 "line 2" solo out/mute.elf out/disk out/client out/frame.single out/stopp
 cat out/stopped.sent out/stopped.ram out/stopped.disk | cmp /dev/null -
 ends 7 "write failed" image mute missing/mute.elf
 echo "statuses and the demo image: as they must be"
+
+if command -v python3 > /dev/null; then
+    python3 sessions.py "$colo" out
+else
+    echo "skipped: the sessions with the demo servers, since there is no python3"
+fi
 
 # again RUN IMAGE TURNS: `solo` makes the run that the log of `replay` names again, to the same memory and disk
 again() {
