@@ -30,4 +30,5 @@ pub with_more : (base : ℕ) (digits : List ℕ) (i value digit number : ℕ) �
     value ≡ digits_value base (take i digits) → digit ≡ digit_value (get_or digits i 0) →
     number ≡ value * base + digit
     → number ≡ digits_value base (take (i + 1) digits)
-with_more base digits i value digit number inside so_far this e = let more = digits_value_more base digits i inside in cc
+with_more base digits i value digit number inside so_far this e =
+    let more = digits_value_more base digits i inside in cc

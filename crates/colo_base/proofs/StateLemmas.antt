@@ -19,7 +19,12 @@ increased_after a b c rose le = omega arith
 -- what didn't change changed only what it may
 pub changes_none : (P : List ℕ → Type 0) (s : ShelfState) → ChangesOnly P s s
 changes_none P s =
-    record { observable = refl; fetch_faults = λ name. omega arith; write_faults = λ name. omega arith; others = λ observable name out. refl }
+    record {
+      observable = refl;
+      fetch_faults = λ name. omega arith;
+      write_faults = λ name. omega arith;
+      others = λ observable name out. refl;
+    }
 
 -- two changes in a row
 pub changes_then : (P : List ℕ → Type 0) (a b c : ShelfState) → ChangesOnly P a b → ChangesOnly P b c →
@@ -56,7 +61,13 @@ sink_then a b c first second =
 -- a link that isn't used goes on
 pub link_none : (s : LinkState) → LinkGoesOn s s
 link_none s =
-    record { observable = refl; open_faults = λ address. omega arith; receive_faults = omega arith; send_faults = omega arith; quiets = omega arith }
+    record {
+      observable = refl;
+      open_faults = λ address. omega arith;
+      receive_faults = omega arith;
+      send_faults = omega arith;
+      quiets = omega arith;
+    }
 
 -- two calls of a link in a row
 pub link_then : (a b c : LinkState) → LinkGoesOn a b → LinkGoesOn b c → LinkGoesOn a c

@@ -24,9 +24,11 @@ is_capture (Acknowledged e) = 0
 -- stands at 2^64 - 1 at most.
 unfoldable pub summary_text : List Record → List ℕ
 summary_text records =
+    let released = sum_by (λ r. released_count r.answer) records in
+    let captured = sum_by (λ r. sum_by is_capture r.marks) records in
     codes "lines " ++ (decimal (min (length records) (2 ^ 64 - 1))
-    ++ (codes " released " ++ (decimal (min (sum_by (λ r. released_count r.answer) records) (2 ^ 64 - 1))
-    ++ (codes " captured " ++ (decimal (min (sum_by (λ r. sum_by is_capture r.marks) records) (2 ^ 64 - 1)) ++ (newline ∷ []))))))
+    ++ (codes " released " ++ (decimal (min released (2 ^ 64 - 1))
+    ++ (codes " captured " ++ (decimal (min captured (2 ^ 64 - 1)) ++ (newline ∷ []))))))
 
 -- A turn of a primary that hears nothing and has no frame waiting: it takes no frame, releases
 -- none, and starts no checkpoint.

@@ -22,7 +22,8 @@ use std::alloc::Global;
 /// `words` are those after the program's name.
 ///
 /// - `replay IMAGE DISK CLIENT SCHEDULE OUT` boots the ELF file IMAGE with the disk DISK, runs the
-///   primary turns of SCHEDULE, and writes `OUT.log`, `OUT.released`, `OUT.wire`, `OUT.ram` and `OUT.disk`.
+///   primary turns of SCHEDULE, and writes `OUT.log`, `OUT.released`, `OUT.wire`, `OUT.ram` and
+///   `OUT.disk`.
 /// - `solo IMAGE DISK CLIENT SINGLE OUT` boots the same machine, makes the turns of the single run
 ///   SINGLE with the frames of CLIENT that they name, and writes `OUT.sent`, `OUT.ram` and
 ///   `OUT.disk`.
@@ -47,8 +48,8 @@ use std::alloc::Global;
 ///
 /// The tests stand in the order 1, 6, 2, 3, 5, 4, 9. Before the files are created nothing changes.
 /// A turn of `solo` without its frame comes afterwards, and leaves them empty.
-/// A put that fails is the last. Only a command that is online uses the link and the clock, and there is
-/// none yet.
+/// A put that fails is the last. Only a command that is online uses the link and the clock, and
+/// there is none yet.
 pub fn colo<S: Shelf, L: Link, K: Clock, O: Sink>(
     alloc: Global,
     words: &[String],
@@ -59,8 +60,18 @@ pub fn colo<S: Shelf, L: Link, K: Clock, O: Sink>(
 ) -> u8
     ensures ends { Ends (record {
       words = texts words.now;
-      before = record { shelf = S.state shelf.old; link = L.state link.old; clock = K.state clock.old; sink = O.state out.old };
-      after = record { shelf = S.state shelf.new; link = L.state link.new; clock = K.state clock.new; sink = O.state out.new };
+      before = record {
+        shelf = S.state shelf.old;
+        link = L.state link.old;
+        clock = K.state clock.old;
+        sink = O.state out.old;
+      };
+      after = record {
+        shelf = S.state shelf.new;
+        link = L.state link.new;
+        clock = K.state clock.new;
+        sink = O.state out.new;
+      };
       status = result;
     }) }
     ensures link { IsOnline (texts words.now) ⊎ (link.new ≡ link.old) }

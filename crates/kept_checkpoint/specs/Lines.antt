@@ -12,7 +12,8 @@ use Rattle.kept_checkpoint.specs.declared.lines.LastLine.{LastLine}
 abbrev pub refused_by : ℕ → ℕ → Option ℕ
 refused_by flags client = if has_flag refused flags then Some client else None
 
--- the line that a message gives, without its bytes; without an opening it has little more than a MAC
+-- the line that a message gives, without its bytes; without an opening it has little more than a
+-- MAC
 abbrev pub line_in : Message → LineFields
 line_in (Line tuple mac flags client own number refusal acked window mss base) =
     if has_flag opened flags then record {

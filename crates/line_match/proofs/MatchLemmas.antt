@@ -30,7 +30,8 @@ matched_is b l m edge n mine theirs one low down e =
     let test : (has_one_client b && nat_le b.theirs.base edge) ≡ true =
     (λ i. one i && nat_le b.theirs.base edge) ∙ known in
     let all : n ≡ common_prefix_len same_symbol (drop edge b.mine.symbols) (drop edge b.theirs.symbols) =
-    e ∙ (sym (agreed_is l m edge (left_opened l.opening m.opening both) (right_opened l.opening m.opening both) low down)
+    e ∙ (sym (agreed_is l m edge (left_opened l.opening m.opening both) (right_opened l.opening m.opening both) low
+    down)
     ∙ (λ i. common_prefix_len same_symbol (drop edge (sym mine i).symbols) (drop edge (sym theirs i).symbols))) in
     ap (λ (k : ℕ). edge + k) all ∙ sym (ap (λ (t : Bool). if t then edge
     + common_prefix_len same_symbol (drop edge b.mine.symbols) (drop edge b.theirs.symbols) else edge) test)

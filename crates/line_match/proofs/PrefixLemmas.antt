@@ -66,7 +66,8 @@ both_syn false xs ys = let n = common_prefix_len same_symbol xs ys in let e : n 
 -- lines with an opening, of which nothing is forgotten from the offset on
 pub agreed_is : (l m : LineFields) (from : ℕ) → is_some l.opening ≡ true → is_some m.opening ≡ true →
     l.base ≤ from → m.base ≤ from →
-    common_prefix_len same_symbol (drop from (whole_of l).symbols) (drop from (whole_of m).symbols) ≡ agreed_from l m from
+    common_prefix_len same_symbol (drop from (whole_of l).symbols) (drop from (whole_of m).symbols)
+    ≡ agreed_from l m from
 agreed_is l m from o p low down =
     ap₂ (λ xs ys. common_prefix_len same_symbol xs ys) (rest_is l from o low) (rest_is m from p down)
     ∙ (both_syn (from == 0) (map byte (bytes_from l from) ++ fin_if (ends_from l from))

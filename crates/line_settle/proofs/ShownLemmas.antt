@@ -53,9 +53,11 @@ shown_symbols b from to c s h =
     let bytes = bytes_in symbols in
     let ends = has_symbol fin symbols in
     shown_after-append c s (syn_segments b (has_symbol syn symbols)) (data_segments b (max from 1) bytes ends)
-    ∙ (shown_data b (max from 1) bytes ends c (shown_after c s (syn_segments b (has_symbol syn symbols))) (enumerate_from
+    ∙ (shown_data b (max from 1) bytes ends c (shown_after c s (syn_segments b (has_symbol syn symbols)))
+    (enumerate_from
     0 (payloads_of bytes ends)) ∙ (shown_syn b c s (has_symbol syn symbols)
-    ∙ ap (λ (n : ℕ). if has_symbol syn symbols then Some (record { client = c; own = n }) else s) (own_number b.number h)))
+    ∙ ap (λ (n : ℕ). if has_symbol syn symbols then Some (record { client = c; own = n }) else s)
+    (own_number b.number h)))
 
 -- neither a segment without symbols nor a reset is one
 pub shown_bare : (b : BothLines) (edge c : ℕ) (s : Option Opening) (goes : Bool) →

@@ -121,7 +121,8 @@ fn same_number(mine: Option<u32>, theirs: Option<u32>) -> bool
 }
 
 fn agrees_on_refusal(both: &Both) -> bool
-    ensures { result ≡ same_number (both_of both.now).mine.refused (both_of both.now).theirs.refused }
+    ensures { let lines = both_of both.now in
+        result ≡ same_number lines.mine.refused lines.theirs.refused }
 {
     let mine = both.mine;
     same_number(mine.refused, refused_by(both.theirs))

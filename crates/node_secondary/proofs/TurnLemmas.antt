@@ -79,12 +79,15 @@ turn_made n t wants frame guest inbox lines waits w f g i l m =
     g ∙ ap (λ (x : Option (List ℕ)). after_turn n.guest (turn_of t.ticks x t.requests t.steps)) given in
     let i1 : inbox ≡ left_frames (takes n.guest t.wants) n.inbox = i ∙ ap (λ (b : Bool). left_frames b n.inbox) w in
     let l1 : lines ≡ fold taken n.lines (sent_in n.guest (guest_turn n t)) =
-    l ∙ ap (λ (x : Option (List ℕ)). fold taken n.lines (sent_in n.guest (turn_of t.ticks x t.requests t.steps))) given in
+    l ∙ ap (λ (x : Option (List ℕ)). fold taken n.lines (sent_in n.guest (turn_of t.ticks x t.requests t.steps)))
+    given in
     let m1 : waits ≡ n.waits ++ sent_messages (sent_in n.guest (guest_turn n t)) =
-    m ∙ ap (λ (x : Option (List ℕ)). n.waits ++ sent_messages (sent_in n.guest (turn_of t.ticks x t.requests t.steps))) given in
+    m ∙ ap (λ (x : Option (List ℕ)). n.waits ++ sent_messages
+    (sent_in n.guest (turn_of t.ticks x t.requests t.steps))) given in
     nodes_same n g1 i1 l1 m1
   where
     nodes_same : (n : Node) {a b : Meaning} {c d : List Waiting} {e f : Tracking} {x y : List (List ℕ)} →
         a ≡ b → c ≡ d → e ≡ f → x ≡ y →
-        record n { guest = a; inbox = c; lines = e; waits = x } ≡ record n { guest = b; inbox = d; lines = f; waits = y }
+        record n { guest = a; inbox = c; lines = e; waits = x }
+        ≡ record n { guest = b; inbox = d; lines = f; waits = y }
     nodes_same n p q r s = cc

@@ -50,7 +50,8 @@ held_untrimmed : (mine : Tracking) (table : ProgressTable) (t : Tuple) → AreUn
     IsUntrimmed (entry_or_none mine.entries t).line (progress_at table t).edge
 held_untrimmed mine table t h = by (entry_of mine.entries t) refl
   where
-    by : (o : Option Entry) → entry_of mine.entries t ≡ o → IsUntrimmed (unwrap_or o no_entry).line (progress_at table t).edge
+    by : (o : Option Entry) → entry_of mine.entries t ≡ o
+    → IsUntrimmed (unwrap_or o no_entry).line (progress_at table t).edge
     by None p = λ o. absurd (true≢false (sym o))
     by (Some e) p = h t e.line (ap (λ (o : Option Entry). option_map (λ (x : Entry). x.line) o) p)
 
@@ -100,7 +101,8 @@ own_here mine table s l true is h at =
     let u = tuple_of s in
     let e = entry_or_none mine.entries u in
     let known = is_known_client mine u (opening_in s).client in
-    let line : fields_after e.line s ≡ l = some_same (fields_after e.line s) l (sym (ap (λ (o : Option Entry). option_map (λ
+    let line : fields_after e.line s ≡ l = some_same (fields_after e.line s) l
+    (sym (ap (λ (o : Option Entry). option_map (λ
     (x : Entry). x.line) o) (entry_of-put_same u (record e { line = fields_after e.line s }) mine.entries)) ∙ at) in
     subst (λ (m : LineFields). IsUntrimmed m (progress_at (note_progress table (record {
       tuple = u;

@@ -53,7 +53,8 @@ found_made : (lines : Tracking) (x : Surviving) (t : Tuple) (o : Option LineFiel
 found_made lines x t None p l at = cc (p, at)
 found_made lines x t (Some m) p l at =
     let same : m ≡ l = some_same m l (sym p ∙ at) in
-    subst (λ (k : LineFields). IsUntrimmed k (progress_at (survive_found x t (Some m)).progress t).edge) same (made_good x t m
+    subst (λ (k : LineFields). IsUntrimmed k (progress_at (survive_found x t (Some m)).progress t).edge) same
+    (made_good x t m
     m.opening refl)
 
 found_kept : (x : Surviving) (t u : Tuple) (o : Option LineFields) → same_tuple t u ≡ false →
@@ -100,7 +101,8 @@ found_some : (o : Option Entry) (l : LineFields) → option_map (λ (e : Entry).
 found_some None l e = cc
 found_some (Some x) l e = refl
 
-pub survivor_untrimmed : (lines : Tracking) (numbers : KeptNumbers) → AreUntrimmed lines (survive lines numbers).progress
+pub survivor_untrimmed : (lines : Tracking) (numbers : KeptNumbers)
+    → AreUntrimmed lines (survive lines numbers).progress
 unfolding survive
 survivor_untrimmed lines numbers = λ t l at. fold_makes lines (keys_of lines.entries) (record {
   numbers = numbers;

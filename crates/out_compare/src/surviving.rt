@@ -40,7 +40,8 @@ fn release_refusal(alloc: Global, both: &Both, out: &mut Frames) -> Result<(), N
 #[tactic(auto, unfolding(settle_rules::specs::Survive::survivor_out))]
 fn release_line(alloc: Global, both: &Both, out: &mut Frames) -> Result<(), NoMemory>
     requires { is_some both.now.mine.now.opening ≡ true }
-    ensures ok { OnOk result (out.new ≡ out.old ++ map released_frame (survivor_out (both_of both.now))) }
+    ensures ok { OnOk result
+        (out.new ≡ out.old ++ map released_frame (survivor_out (both_of both.now))) }
     ensures err { OnErr result (Begins out.old out.new) }
 {
     let mine = both.mine;

@@ -191,9 +191,9 @@ pub(crate) fn acknowledge(tables: &mut Tables) -> Result<(), NoMemory>
 /// How far a client's segment trims its connection: from 1 to the edge, where it has ACK and the
 /// node's current opening has the shown client.
 fn trim_of(view: &TcpView, edge: Offset, shown: Opening, is_current: bool) -> Offset
-    ensures value { result ≡ (if has_ack view.now.flags && (nat_le 1 (distance shown.own view.now.ack)
-        && (nat_le (distance shown.own view.now.ack) edge && is_current))
-        then distance shown.own view.now.ack else 0) }
+    ensures value { let acked = distance shown.own view.now.ack in
+        result ≡ (if has_ack view.now.flags && (nat_le 1 acked && (nat_le acked edge && is_current))
+        then acked else 0) }
     ensures within { result ≤ edge }
 {
     let acked = view.ack().wrapping_sub(shown.own);
@@ -205,7 +205,8 @@ fn trim_of(view: &TcpView, edge: Offset, shown: Opening, is_current: bool) -> Of
 }
 
 fn is_of_client(line: Option<&Line>, client: u32) -> bool
-    ensures { result ≡ is_of_client (unwrap_or (option_copied line.entry) no_fields).opening client }
+    ensures { let entry = unwrap_or (option_copied line.entry) no_fields in
+        result ≡ is_of_client entry.opening client }
 {
     match line {
         None => false,

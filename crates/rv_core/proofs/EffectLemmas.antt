@@ -1,5 +1,6 @@
--- The effect of an instruction over two buses that answer alike: the outcomes, the registers and the CSRs are equal, and the
--- buses answer alike again. Over one bus: it is as before or as one store left it, and the lines of the CSRs stay.
+-- The effect of an instruction over two buses that answer alike: the outcomes, the registers and the CSRs are equal,
+-- and the buses answer alike again. Over one bus: it is as before or as one store left it, and the lines of the CSRs
+-- stay.
 use Rattle.std.proofs.Common.{◌≡◌, ℕ, ◌⊎◌, inl, inr, Bool, true, false, cond, Option, Some, None, Result, Ok, Err, refl, sym, ap, subst}
 use Rattle.std.specs.Prelude.{◌%◌, ◌==◌, ◌&&◌, ok_or, if◌then◌else◌}
 use Rattle.rv_isa.specs.declared.instr.Instr.{Instr}

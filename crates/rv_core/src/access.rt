@@ -267,7 +267,8 @@ impl Hart {
             IfOk result (λ o. bus_result o self.new bus.new
             ≡ modify B.acts self.old bus.old rd addr new (word_to_modify B.acts bus.old addr)) }
         ensures memory { let new : ℕ → ℕ = λ old. apply operation old (x_of self.old rs2) in
-            IsErr result → MayRunOut B.acts bus.old (amo_request B.acts bus.old (x_of self.old rs1) new) }
+            let request = amo_request B.acts bus.old (x_of self.old rs1) new in
+            IsErr result → MayRunOut B.acts bus.old request }
     {
         let addr = self.at(rs1);
         match word_at(bus, STORE_ADDRESS_MISALIGNED, STORE_ACCESS_FAULT, addr) {

@@ -32,11 +32,13 @@ pub trait Bus {
         ensures memory { IsErr result → acts.wants self.old addr width value ≡ true };
 
     // a store that is refused changes nothing
-    ghost refused: { (s : Self) (a w v : ℕ) → acts.stores s a w v ≡ false → acts.stored s a w v ≡ s };
+    ghost refused: { (s : Self) (a w v : ℕ)
+        → acts.stores s a w v ≡ false → acts.stored s a w v ≡ s };
 
     // where a word can be fetched, a word can be stored
     ghost ram: { (s : Self) (a v : ℕ) → IsSome (acts.fetched s a) → acts.stores s a 4 v ≡ true };
 
     // and a load gives the word that a fetch gives
-    ghost same_word: { (s : Self) (a v : ℕ) → acts.fetched s a ≡ Some v → acts.loaded s a 4 ≡ Some v };
+    ghost same_word: { (s : Self) (a v : ℕ)
+        → acts.fetched s a ≡ Some v → acts.loaded s a 4 ≡ Some v };
 }

@@ -26,8 +26,8 @@ impl Hart {
     /// word has to decode to it. `Trap` changes no register, no CSR and no memory. The bus
     /// afterwards is as before, or as one store left it. No instruction changes the lines, the
     /// timer and the count of steps of the CSRs.
-    /// `NoMemory` comes only where the bus tells that the instruction's store may run out of memory. The CSRs
-    /// are then as before, and nothing is stated of the hart and the bus.
+    /// `NoMemory` comes only where the bus tells that the instruction's store may run out of
+    /// memory. The CSRs are then as before, and nothing is stated of the hart and the bus.
     #[tactic(auto, unfolding(crate::specs::Effect::effect))]
     #[inline(always)]
     pub fn execute<B: Bus>(

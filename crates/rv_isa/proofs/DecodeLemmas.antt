@@ -384,7 +384,8 @@ pub ruleset op_rows = (
   op_none,
 )
 
-pub misc_mem_none : (w : ℕ) → bit_and w 0x7F ≡ 0xF → bit_and w 0x707F ≢ 0xF → bit_and w 0x707F ≢ 0x100F → decode w ≡ None
+pub misc_mem_none : (w : ℕ) → bit_and w 0x7F ≡ 0xF → bit_and w 0x707F ≢ 0xF → bit_and w 0x707F ≢ 0x100F
+    → decode w ≡ None
 unfolding table
 misc_mem_none w e h0 h1 = no_row w 0x7F 0xF 0x707F (0xF ∷ 0x100F ∷ []) e (h0 & h1 & tt) refl
 

@@ -145,14 +145,16 @@ module _ (o f : ℕ) (lo : o < 2 ^ 7) (lf : f < 2 ^ 3) where
       (omega arith, rw (ea, eb, ec) at read)
 
   amo_type_decodes : (g : ℕ) → g < 2 ^ 5 → (name : ℕ → ℕ → ℕ → Bool → Bool → Instr)
-      → ((w : ℕ) → bit_and w 0xF800707F ≡ o + f * 2 ^ 12 + g * 2 ^ 27 → decode w ≡ Some (name (rd w) (rs1 w) (rs2 w) (aq w) (rl w)))
+      → ((w : ℕ) → bit_and w 0xF800707F ≡ o + f * 2 ^ 12 + g * 2 ^ 27
+      → decode w ≡ Some (name (rd w) (rs1 w) (rs2 w) (aq w) (rl w)))
       → (a b c : ℕ) (p q : Bool) → a < 32 → b < 32 → c < 32
       → DecodesTo (amo_word (o + f * 2 ^ 12 + g * 2 ^ 27) a b c p q) (name a b c p q)
   amo_type_decodes g lg name row a b c p q la lb lc =
       let w : ℕ = amo_word (o + f * 2 ^ 12 + g * 2 ^ 27) a b c p q in
       let lp : bit_value p < 2 = bit_below p in
       let lq : bit_value q < 2 = bit_below q in
-      let sum : w ≡ o + f * 2 ^ 12 + g * 2 ^ 27 + a * 2 ^ 7 + b * 2 ^ 15 + c * 2 ^ 20 + bit_value p * 2 ^ 26 + bit_value q * 2 ^ 25 =
+      let sum : w ≡ o + f * 2 ^ 12 + g * 2 ^ 27 + a * 2 ^ 7 + b * 2 ^ 15 + c * 2 ^ 20 + bit_value p * 2 ^ 26
+      + bit_value q * 2 ^ 25 =
       omega (arith, aq_value p, rl_value q) in
       let read : decode w ≡ Some (name (rd w) (rs1 w) (rs2 w) (aq w) (rl w)) = row w (omega (arith, under_funct5 w)) in
       let ea : rd w ≡ a = omega arith in
@@ -165,7 +167,8 @@ module _ (o f : ℕ) (lo : o < 2 ^ 7) (lf : f < 2 ^ 3) where
       (omega arith, rw (ea, eb, ec, ep, eq) at read)
 
   lr_type_decodes : (g : ℕ) → g < 2 ^ 5 → (name : ℕ → ℕ → Bool → Bool → Instr)
-      → ((w : ℕ) → bit_and w 0xF9F0707F ≡ o + f * 2 ^ 12 + g * 2 ^ 27 → decode w ≡ Some (name (rd w) (rs1 w) (aq w) (rl w)))
+      → ((w : ℕ) → bit_and w 0xF9F0707F ≡ o + f * 2 ^ 12 + g * 2 ^ 27
+      → decode w ≡ Some (name (rd w) (rs1 w) (aq w) (rl w)))
       → (a b : ℕ) (p q : Bool) → a < 32 → b < 32
       → DecodesTo (lr_word (o + f * 2 ^ 12 + g * 2 ^ 27) a b p q) (name a b p q)
   lr_type_decodes g lg name row a b p q la lb =

@@ -26,7 +26,8 @@ under_rs2 : (w : ℕ) → bit_and w 0x01F0707F ≡ w % 2 ^ 7 + w / 2 ^ 12 % 2 ^ 
 under_rs2 w = omega (arith, and_split w 20 31 0x707F (lit< tt), and_mask (w / 2 ^ 20) 5, under_funct3 (w % 2 ^ 20))
 
 pub under_lr : (w : ℕ)
-    → bit_and w 0xF9F0707F ≡ w % 2 ^ 7 + w / 2 ^ 12 % 2 ^ 3 * 2 ^ 12 + w / 2 ^ 20 % 2 ^ 5 * 2 ^ 20 + w / 2 ^ 27 % 2 ^ 5 * 2 ^ 27
+    → bit_and w 0xF9F0707F ≡ w % 2 ^ 7 + w / 2 ^ 12 % 2 ^ 3 * 2 ^ 12 + w / 2 ^ 20 % 2 ^ 5 * 2 ^ 20
+    + w / 2 ^ 27 % 2 ^ 5 * 2 ^ 27
 under_lr w = omega (arith, and_split w 27 31 0x01F0707F (lit< tt), and_mask (w / 2 ^ 27) 5, under_rs2 (w % 2 ^ 27))
 
 pub and_zero : (w : ℕ) → bit_and w 0 ≡ 0

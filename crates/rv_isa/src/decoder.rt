@@ -18,7 +18,8 @@ pub fn decode(word: u32) -> Option<Instr>
 
     // No two rows fit a word, and the one that does is the one that is read.
     ensures one_row { HasAtMostOneRow word }
-    ensures row { (r : Row) → Contains table r → IsTrue (fits r word) → result ≡ Some (r.read word) }
+    ensures row { (r : Row) → Contains table r
+        → IsTrue (fits r word) → result ≡ Some (r.read word) }
     ensures none { result ≡ None → All (λ row. fits row word ≡ false) table }
 
     // Each field is within its range, and some word decodes to the result.

@@ -1,5 +1,5 @@
-//! The formats of instruction words: a function for each, which puts the fields beside what a row fixes
-//! (RISC-V unprivileged, RV32I, 2.2 and 2.3).
+//! The formats of instruction words: a function for each, which puts the fields beside what a row
+//! fixes (RISC-V unprivileged, RV32I, 2.2 and 2.3).
 
 ghost use Rattle.std.specs.Prelude.{◌≡◌, ℕ, ◌+◌, ◌-◌, ◌%◌, ◌^◌, ◌<◌, ◌≤◌};
 ghost use Rattle.rv_isa.specs.Ranges.{IsRegister, IsSigned, IsOffset};

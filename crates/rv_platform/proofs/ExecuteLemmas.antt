@@ -95,6 +95,7 @@ same_time p c b s lines one =
 
 -- the kinds are kept
 pub kinds_executed : (p : Parts) (h : Regs) (c : CsrState) (b : Board) → IsOneStore board_acts p.board b
-    → KeepsKinds (platform_of p) (platform_of (let q : Parts = record { hart = h; csrs = c; board = b; memo = tt } in q))
+    → KeepsKinds (platform_of p) (platform_of (let q : Parts = record { hart = h; csrs = c; board = b; memo = tt }
+    in q))
 kinds_executed p h c b one =
     let k = board_kept p.board b one in record { net = k.net; blk = k.blk; memory = k.memory }

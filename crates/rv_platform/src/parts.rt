@@ -17,8 +17,8 @@ use rv_traps::Csrs;
 use rv_traps::cause::{ILLEGAL_INSTRUCTION, INSTRUCTION_ACCESS_FAULT};
 use virtio_mmio::Served;
 
-/// The hart, the CSRs and the bus, beside words that were decoded. Between two steps the parts are settled: the CSRs have the
-/// devices' line, and the bus has the lines and the timer of the CSRs.
+/// The hart, the CSRs and the bus, beside words that were decoded. Between two steps the parts are
+/// settled: the CSRs have the devices' line, and the bus has the lines and the timer of the CSRs.
 #[derive(Drop)]
 pub struct Parts {
     pub hart: Hart,

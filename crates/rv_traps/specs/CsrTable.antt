@@ -25,8 +25,8 @@ mip_of c =
     + (if nat_le c.mtimecmp c.mtime then 0x80 else 0)
     + (if c.external then 0x800 else 0)
 
--- mstatus, misa, mie, mtvec; mscratch, mepc, mcause, mtval, mip; mcycle, minstret, mcycleh, minstreth
--- (the halves of the count of steps before this one); mvendorid, marchid, mimpid, mhartid
+-- mstatus, misa, mie, mtvec; mscratch, mepc, mcause, mtval, mip; mcycle, minstret, mcycleh,
+-- minstreth (the halves of the count of steps before this one); mvendorid, marchid, mimpid, mhartid
 unfoldable pub table : List Row
 table =
     record {

@@ -235,7 +235,8 @@ impl Csrs {
         self.fields.steps
     }
 
-    /// The values that the registers hold. With the devices' line they make the same registers again.
+    /// The values that the registers hold. With the devices' line they make the same registers
+    /// again.
     pub fn fields(&self) -> CsrFields
         ensures value { result ≡ fields_of self.now }
         ensures legal { IsLegal result }
@@ -244,7 +245,8 @@ impl Csrs {
         self.fields
     }
 
-    /// Sets the values that the registers hold, which `CsrFields::is_legal` tests. What `external` set stays.
+    /// Sets the values that the registers hold, which `CsrFields::is_legal` tests. What `external`
+    /// set stays.
     pub fn set_fields(&mut self, f: &CsrFields)
         requires { IsLegal f.now }
         ensures { self.new ≡ state_of f.now self.old.external }

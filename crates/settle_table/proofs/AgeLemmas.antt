@@ -21,7 +21,8 @@ clear_first-all [] = refl
 clear_first-all (e ∷ es) = ap (λ (xs : ProgressTable). (e.0, record e.1 { age = 0 }) ∷ xs) (clear_first-all es)
 
 -- the age after those that are done is set
-pub clear_first-suc : (k : ℕ) (es : ProgressTable) (x : Progress) → slice_get (values_of (clear_first k es)) k ≡ Some x →
+pub clear_first-suc : (k : ℕ) (es : ProgressTable) (x : Progress)
+    → slice_get (values_of (clear_first k es)) k ≡ Some x →
     set_value_at (clear_first k es) k (record x { age = 0 }) ≡ clear_first (suc k) es
 clear_first-suc zero [] x h = refl
 clear_first-suc zero (e ∷ es) x h = let same : e.1 ≡ x = cc in ap (λ (y : Progress). (e.0, record y { age = 0 }) ∷ es)

@@ -79,7 +79,8 @@ edge_after_set table t u p more = by (same_tuple t u) refl
     by : (b : Bool) → same_tuple t u ≡ b → (progress_at table t).edge ≤ (progress_at (set_progress table u p) t).edge
     by true h =
         let e : t ≡ u = same_tuple-eq t u h in
-        subst (λ (x : Tuple). (progress_at table x).edge ≤ (progress_at (set_progress table u p) x).edge) (sym e) (omega (
+        subst (λ (x : Tuple). (progress_at table x).edge ≤ (progress_at (set_progress table u p) x).edge) (sym e)
+        (omega (
           arith,
           more,
           ap (λ (q : Progress). q.edge) (progress_at-set_same table u p),

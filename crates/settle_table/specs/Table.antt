@@ -20,4 +20,5 @@ set_progress table t p =
 -- No line is trimmed past its edge.
 abbrev pub AreUntrimmed : Tracking → ProgressTable → Type 0
 AreUntrimmed mine table =
-    (t : Tuple) (l : LineFields) → line_at mine t ≡ Some l → IsUntrimmed l (progress_at table t).edge
+    (t : Tuple) (l : LineFields)
+    → line_at mine t ≡ Some l → IsUntrimmed l (progress_at table t).edge

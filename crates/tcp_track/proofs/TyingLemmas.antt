@@ -44,7 +44,7 @@ drop-nothing zero = refl
 drop-nothing (suc d) = refl
 
 -- the payload from a place on: its bytes, and FIN where the place is not after it
-drop-payload : (d : ℕ) (bytes : List ℕ) (ends : Bool) → drop d (map byte bytes ++ fin_if ends)
+pub drop-payload : (d : ℕ) (bytes : List ℕ) (ends : Bool) → drop d (map byte bytes ++ fin_if ends)
     ≡ map byte (drop d bytes) ++ fin_if (ends && nat_le d (length bytes))
 drop-payload d bytes ends = by (nat_le d (length bytes)) refl
   where

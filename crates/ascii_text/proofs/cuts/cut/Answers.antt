@@ -5,7 +5,8 @@ use Rattle.ascii_text.proofs.cuts.cut.Goals as goal
 
 pub returns-then-byte-at-clause-before : goal.returns-then-byte-at-clause-before
 returns-then-byte-at-clause-before c = rw
-    (cut_at c.args.at c.args.text.now c.loop-index.index c.loop-index.invariant c.loop-index-test.true c.if-byte-at.true)
+    (cut_at c.args.at c.args.text.now c.loop-index.index c.loop-index.invariant c.loop-index-test.true
+    c.if-byte-at.true)
 
 pub returns-then-byte-at-clause-after : goal.returns-then-byte-at-clause-after
 returns-then-byte-at-clause-after c =

@@ -11,10 +11,12 @@ returns-in_default c =
       arith,
       c.in_default.ensures,
     ) in
-    sym (still_large c.args.base c.args.most c.args.digits.now c.loop-byte.byte-index c.loop-byte.value c.requires c.loop-byte-test.true c.loop-byte.invariant.value (rw digit at large))
+    sym (still_large c.args.base c.args.most c.args.digits.now c.loop-byte.byte-index c.loop-byte.value c.requires
+    c.loop-byte-test.true c.loop-byte.invariant.value (rw digit at large))
 
 pub loop-byte-preserved : goal.loop-byte-preserved
 loop-byte-preserved c = record {
   small = omega (arith, c.in-Some.ensures.0, c.in-Some.ensures.1);
-  value = with_more c.args.base c.args.digits.now c.loop-byte.byte-index c.loop-byte.value c.digit_value.result c.in-Some.number c.loop-byte-test.true c.loop-byte.invariant.value c.digit_value.ensures c.in-Some.ensures.1;
+  value = with_more c.args.base c.args.digits.now c.loop-byte.byte-index c.loop-byte.value c.digit_value.result
+      c.in-Some.number c.loop-byte-test.true c.loop-byte.invariant.value c.digit_value.ensures c.in-Some.ensures.1;
 }

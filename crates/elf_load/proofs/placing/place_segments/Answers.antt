@@ -18,8 +18,8 @@ place-requires-clause-inside c =
 
 pub loop-k-preserved : goal.loop-k-preserved
 loop-k-preserved c = elim c.if-is_load.branch [
-  | then-is_load w ↦ place_loaded c.args.bytes.now c.args.memory.now c.loop-k.k c.header-segment.result c.loop-k.invariant c.header-segment.ensures
-      w.if-is_load.ensures (w.memory-is ∙ w.place.ensures)
-  | else-is_load w ↦ place_skipped c.args.bytes.now c.args.memory.now c.loop-k.k c.header-segment.result c.loop-k.invariant c.header-segment.ensures
-      w.if-is_load.ensures w.memory-is
+  | then-is_load w ↦ place_loaded c.args.bytes.now c.args.memory.now c.loop-k.k c.header-segment.result
+      c.loop-k.invariant c.header-segment.ensures w.if-is_load.ensures (w.memory-is ∙ w.place.ensures)
+  | else-is_load w ↦ place_skipped c.args.bytes.now c.args.memory.now c.loop-k.k c.header-segment.result
+      c.loop-k.invariant c.header-segment.ensures w.if-is_load.ensures w.memory-is
 ]

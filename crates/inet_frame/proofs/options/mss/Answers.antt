@@ -25,7 +25,8 @@ loop-rest-preserved c =
     let some : 0 < option_len c.loop-rest.rest.now = omega (arith, c.option_len-len.ensures.value) in
     let later : mss_of c.loop-rest.rest.now ≡ mss_of (drop (option_len c.loop-rest.rest.now) c.loop-rest.rest.now) =
     elim c.else-len-eq4.branch [
-      | else-len-eq4-via-then-len-eq4+else-rest-eq-MAXIMUM_SEGMENT_SIZE w ↦ mss_later_kind rest some w.if-rest-eq-MAXIMUM_SEGMENT_SIZE.false
+      | else-len-eq4-via-then-len-eq4+else-rest-eq-MAXIMUM_SEGMENT_SIZE w ↦ mss_later_kind rest some
+          w.if-rest-eq-MAXIMUM_SEGMENT_SIZE.false
       | else-len-eq4-via-else-len-eq4 w ↦ mss_later_len rest some (λ four. w.if-len-eq4.false (value ∙ four))
     ] in
     ap mss_of (take_rest rest c.option_len-len.result)

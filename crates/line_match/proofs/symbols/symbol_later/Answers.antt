@@ -9,7 +9,10 @@ pub returns : goal.returns
 returns c =
     let l : LineFields = c.args.line.now in
     c.data_symbol.ensures
-    ∙ (ap (λ (xs : List ℕ). slice_get (map byte xs ++ fin_if c.line.inside.fin) (c.args.offset - c.max.result)) c.as_slice.ensures
-    ∙ (ap (λ (n : ℕ). slice_get (map byte c.line.inside.bytes ++ fin_if c.line.inside.fin) (c.args.offset - n)) c.max.ensures
-    ∙ (ap (λ (k : LineFields). slice_get (map byte k.bytes ++ fin_if k.fin) (c.args.offset - max k.base 1)) c.line.view_is
+    ∙ (ap (λ (xs : List ℕ). slice_get (map byte xs ++ fin_if c.line.inside.fin) (c.args.offset - c.max.result))
+    c.as_slice.ensures
+    ∙ (ap (λ (n : ℕ). slice_get (map byte c.line.inside.bytes ++ fin_if c.line.inside.fin) (c.args.offset - n))
+    c.max.ensures
+    ∙ (ap (λ (k : LineFields). slice_get (map byte k.bytes ++ fin_if k.fin) (c.args.offset - max k.base 1))
+    c.line.view_is
     ∙ symbol_later_is l c.args.offset c.requires.opened c.requires.untrimmed c.requires.later)))

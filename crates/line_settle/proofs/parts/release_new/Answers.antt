@@ -11,7 +11,8 @@ pub returns-else-edge-to-clause-ok : goal.returns-else-edge-to-clause-ok
 returns-else-edge-to-clause-ok c =
     let b = both_of c.args.both.now in
     let same : c.args.to ≡ c.args.edge = omega (arith, c.if-edge-to.false, c.requires.after) in
-    sym (ap (λ (xs : List Released). c.args.out.now ++ map released_frame xs) (release_nothing b c.args.edge c.args.to same)
+    sym (ap (λ (xs : List Released). c.args.out.now ++ map released_frame xs)
+    (release_nothing b c.args.edge c.args.to same)
     ∙ append-nil c.args.out.now)
 
 pub returns-else-edge-to-clause-shown : goal.returns-else-edge-to-clause-shown

@@ -18,7 +18,8 @@ returns-clause-ok c =
     let symbols = release_symbols b from end in
     let resets = release_reset b end c.mine.inside.reset in
     let refusals = release_refusal b b.mine.refused (is_some b.mine.refused) in
-    let one = added_twice old c.release_syn.new.out c.release_symbols.new.out syns symbols c.in_ok-release_syn.ensures.ok
+    let one = added_twice old c.release_syn.new.out c.release_symbols.new.out syns symbols
+    c.in_ok-release_syn.ensures.ok
     c.in_ok-release_symbols.ensures.ok in
     let two = added_twice old c.release_symbols.new.out c.release_reset.new.out (syns ++ symbols) resets one
     c.in_ok-release_reset.ensures.ok in

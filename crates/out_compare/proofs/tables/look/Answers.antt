@@ -12,5 +12,6 @@ returns-in-Some-clause-order c = λ h.
     let t = c.client_tuple-tuple.result in
     let low : c.trim_of-trim.result ≤ (progress_at table t).edge =
     subst (λ (n : ℕ). c.trim_of-trim.result ≤ n) c.progress_of-edge.ensures.edge c.trim_of-trim.ensures.within in
-    subst (λ (m : Tracking). AreUntrimmed m table) (sym c.trim.ensures) (trim_untrimmed mine table t c.in-Some.shown.client
+    subst (λ (m : Tracking). AreUntrimmed m table) (sym c.trim.ensures)
+    (trim_untrimmed mine table t c.in-Some.shown.client
     c.trim_of-trim.result low h)

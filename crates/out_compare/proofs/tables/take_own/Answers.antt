@@ -14,6 +14,7 @@ returns-clause-order c =
     let table = c.args.tables.now.progress.entries in
     let noted = c.in_ok-note_progress.ensures
     ∙ ap (λ (t : Took). note_progress table t) c.in_ok-took.ensures.answer in
-    subst (λ (m : Tracking). AreUntrimmed m c.note_progress.new.table.entries) (sym c.in_ok-took.ensures.after) (subst (λ
+    subst (λ (m : Tracking). AreUntrimmed m c.note_progress.new.table.entries) (sym c.in_ok-took.ensures.after)
+    (subst (λ
     (t : ProgressTable). AreUntrimmed (taken mine c.args.frame.now) t) (sym noted) (own_untrimmed mine table
     c.args.frame.now c.requires))

@@ -31,7 +31,8 @@ loop-k-preserved c =
     let tuples = tuples_of c.args.scene.now.mine.now in
     let t = c.tuple_at-tuple.result in
     let rest = find (has_waited table) (drop (suc c.loop-k.k) tuples) in
-    let waited : has_waited table t ≡ false = not_equal _ _ (λ p. c.if-age_at-eq-LONGEST_WAIT.false (c.age_at.ensures ∙ p)) in
+    let waited : has_waited table t ≡ false = not_equal _ _
+    (λ p. c.if-age_at-eq-LONGEST_WAIT.false (c.age_at.ensures ∙ p)) in
     rw add-one (c.loop-k.invariant
     ∙ (ap (λ (ts : List Tuple). find (has_waited table) ts) (drop_step tuples c.loop-k.k t c.tuple_at-tuple.ensures)
     ∙ ap (λ (b : Bool). cond b (Some t) rest) waited))

@@ -12,6 +12,8 @@ returns-in_ok-settle_entry-in-Some-clause-untrimmed c =
     let mine = c.args.scene.now.mine.now in
     let table = c.args.table.now.entries in
     let b = c.both_lines-both.result in
-    let p = (settle_one (both_of b) (progress_at table b.tuple) c.args.scene.now.is_turn c.args.scene.now.tooks.now).progress in
-    subst (λ (t : ProgressTable). AreUntrimmed mine t) (sym c.in_ok-settle_entry-in-Some.ensures.progress) (untrimmed_set mine
+    let p = (settle_one (both_of b) (progress_at table b.tuple) c.args.scene.now.is_turn
+    c.args.scene.now.tooks.now).progress in
+    subst (λ (t : ProgressTable). AreUntrimmed mine t) (sym c.in_ok-settle_entry-in-Some.ensures.progress)
+    (untrimmed_set mine
     table b.tuple p c.requires c.in_ok-settle_entry-in-Some.ensures.after)

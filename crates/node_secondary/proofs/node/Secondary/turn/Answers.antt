@@ -20,7 +20,8 @@ returns-in-Ok-clause-after g c =
       committed = old.committed;
       under_way = old.under_way;
     } in
-    let made = turn_made n t c.wants_frame-wants.result (option_copied c.bytes_of.result) (meaning c.turn_guest.new.guest)
+    let made = turn_made n t c.wants_frame-wants.result (option_copied c.bytes_of.result)
+    (meaning c.turn_guest.new.guest)
     c.take_frame-given.new.inbox c.turn_guest.new.lines c.turn_guest.new.waits c.wants_frame-wants.ensures
     (c.bytes_of.ensures.bytes ∙ c.take_frame-given.ensures.given) c.in-Ok.ensures.guest c.take_frame-given.ensures.left
     c.in-Ok.ensures.lines c.in-Ok.ensures.waits in

@@ -15,7 +15,8 @@ catch_up-requires-clause-untouched c =
 
 pub returns-in_err-catch_up-clause-kinds : goal.returns-in_err-catch_up-clause-kinds
 returns-in_err-catch_up-clause-kinds c = kinds_then (platform_of c.args.self.now) _ _
-    (kinds_executed c.args.self.now c.execute.new.self c.execute.new.csrs c.execute.new.bus c.in_ok-outcome.ensures.one_store)
+    (kinds_executed c.args.self.now c.execute.new.self c.execute.new.csrs c.execute.new.bus
+    c.in_ok-outcome.ensures.one_store)
     c.catch_up.ensures.kinds
 
 pub returns-clause-ok : goal.returns-clause-ok
@@ -29,6 +30,7 @@ pub returns-clause-kinds : goal.returns-clause-kinds
 returns-clause-kinds c =
     kinds_then (platform_of c.args.self.now) (platform_of c.catch_up.new.self) (platform_of c.enter_by.new.self)
     (kinds_then (platform_of c.args.self.now) _ _
-    (kinds_executed c.args.self.now c.execute.new.self c.execute.new.csrs c.execute.new.bus c.in_ok-outcome.ensures.one_store)
+    (kinds_executed c.args.self.now c.execute.new.self c.execute.new.csrs c.execute.new.bus
+    c.in_ok-outcome.ensures.one_store)
     c.catch_up.ensures.kinds)
     c.enter_by.ensures.kinds
