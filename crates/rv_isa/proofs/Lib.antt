@@ -5,3 +5,4 @@ pub mod RowLemmas
 pub mod EncodeLemmas
 pub mod SignLemmas
 pub mod RangeLemmas
+pub mod FieldLemmas
