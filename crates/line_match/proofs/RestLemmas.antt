@@ -4,8 +4,7 @@ use Rattle.std.proofs.lemmas.Bool.{ltb-true, ltb-false, eqb-true}
 use Rattle.tcp_track.specs.Segments.{Symbol, syn, byte, fin_if, syn_if}
 use Rattle.tcp_track.specs.LineFields.{LineFields, syn_kept}
 use Rattle.line_release.specs.Whole.{whole_of}
-use Rattle.line_release.proofs.PlaceLemmas.{drop-syn}
-use Rattle.tcp_track.proofs.TyingLemmas.{drop-payload}
+use Rattle.tcp_track.proofs.TyingLemmas.{drop-payload, drop-syn}
 use Rattle.line_release.proofs.PartLemmas.{from-kept}
 use Rattle.line_match.specs.Rest.{bytes_from, ends_from}
 

@@ -1,3 +1,2 @@
 pub mod PartLemmas
 pub mod PieceLemmas
-pub mod PlaceLemmas

@@ -10,8 +10,7 @@ use Rattle.std.proofs.Math.Seq.{drop-append-add}
 use Rattle.tcp_track.specs.Segments.{Symbol, syn, byte, fin, fin_if, same_symbol}
 use Rattle.tcp_track.specs.LineFields.{LineFields, IsWithin, syn_kept, symbols_kept, bytes_end}
 use Rattle.settle_rules.specs.Release.{byte_in, bytes_in, has_symbol}
-use Rattle.line_release.proofs.PlaceLemmas.{drop-syn}
-use Rattle.tcp_track.proofs.TyingLemmas.{drop-payload}
+use Rattle.tcp_track.proofs.TyingLemmas.{drop-payload, drop-syn}
 use Rattle.line_release.specs.Whole.{forgotten, whole_of, symbols_between}
 
 -- LISTS

@@ -1,4 +1,3 @@
-pub mod AgeLemmas
 pub mod KeptLemmas
 pub mod StepLemmas
 pub mod TableLemmas

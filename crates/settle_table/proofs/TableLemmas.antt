@@ -1,56 +1,19 @@
 -- What the table of progress finds after a change, and that lines stay untrimmed past their edges.
-use Rattle.std.proofs.Common.{◌≡◌, ℕ, ◌≤◌, Bool, true, false, cond, List, [], ◌∷◌, ◌++◌, Option, None, Some, unwrap_or, refl, sym, ap, subst, ◌∙◌, true≢false, arith, if◌then◌else◌}
+use Rattle.std.proofs.Common.{◌≡◌, ◌≤◌, Bool, true, false, [], ◌∷◌, ◌++◌, Option, Some, unwrap_or, refl, sym, ap, subst, arith, if◌then◌else◌}
 use Rattle.std.specs.Prelude.{is_some}
 use Rattle.std.specs.Map.{lookup, set_value}
 use Rattle.inet_frame.specs.declared.tuple.Tuple.{Tuple}
 use Rattle.tcp_track.specs.LineFields.{LineFields}
 use Rattle.tcp_track.specs.Segments.{same_tuple}
 use Rattle.tcp_track.specs.Tracking.{Tracking, line_at}
-use Rattle.tcp_track.proofs.TupleLemmas.{same_tuple-refl, same_tuple-eq, same_tuple-other}
+use Rattle.tcp_track.proofs.TupleLemmas.{same_tuple-eq, lookup-set_same, lookup-set_other, lookup-push_same, lookup-push_other}
 use Rattle.settle_rules.specs.Progress.{Progress, ProgressTable, no_progress}
 use Rattle.line_match.specs.Untrimmed.{IsUntrimmed}
 use Rattle.settle_table.specs.Table.{progress_at, set_progress, AreUntrimmed}
 
-set_same : (u : Tuple) (e : Progress) (es : ProgressTable) → is_some (lookup (same_tuple u) es) ≡ true →
-    lookup (same_tuple u) (set_value (same_tuple u) es e) ≡ Some e
-set_same u e [] h = absurd (true≢false (sym h))
-set_same u e (x ∷ es) h = by (same_tuple u x.0) refl (set_same u e es)
-  where
-    by : (b : Bool) → same_tuple u x.0 ≡ b → (is_some (lookup (same_tuple u) es) ≡ true →
-        lookup (same_tuple u) (set_value (same_tuple u) es e) ≡ Some e) →
-        lookup (same_tuple u) (set_value (same_tuple u) (x ∷ es) e) ≡ Some e
-    by true p more = rw p (rw p refl)
-    by false p more = rw p (rw p (more (sym (ap (λ (b : Bool). is_some (cond b (Some x.1) (lookup
-        (same_tuple u) es))) p) ∙ h)))
-
-set_other : (t u : Tuple) (e : Progress) (es : ProgressTable) → same_tuple t u ≡ false →
-    lookup (same_tuple t) (set_value (same_tuple u) es e) ≡ lookup (same_tuple t) es
-set_other t u e [] other = refl
-set_other t u e (x ∷ es) other = by (same_tuple u x.0) refl (set_other t u e es other)
-  where
-    by : (b : Bool) → same_tuple u x.0 ≡ b → lookup (same_tuple t) (set_value (same_tuple u) es e)
-        ≡ lookup (same_tuple t) es → lookup (same_tuple t) (set_value (same_tuple u) (x ∷ es) e)
-        ≡ lookup (same_tuple t) (x ∷ es)
-    by true p more = let no = same_tuple-other t u x.0 p other in rw p (rw no refl)
-    by false p more = rw p (ap (λ (o : Option Progress). cond (same_tuple t x.0) (Some x.1) o) more)
-
-push_same : (u : Tuple) (e : Progress) (es : ProgressTable) → is_some (lookup (same_tuple u) es) ≡ false →
-    lookup (same_tuple u) (es ++ (u, e) ∷ []) ≡ Some e
-push_same u e [] h = rw same_tuple-refl refl
-push_same u e (x ∷ es) h = by (same_tuple u x.0) refl (push_same u e es)
-  where
-    by : (b : Bool) → same_tuple u x.0 ≡ b → (is_some (lookup (same_tuple u) es) ≡ false →
-        lookup (same_tuple u) (es ++ (u, e) ∷ []) ≡ Some e) → lookup (same_tuple u) ((x ∷ es) ++ (u, e) ∷ []) ≡ Some e
-    by true p more = absurd (true≢false (sym (ap (λ (b : Bool). is_some (cond b (Some x.1) (lookup
-        (same_tuple u) es))) p) ∙ h))
-    by false p more = rw p (more (sym (ap (λ (b : Bool). is_some (cond b (Some x.1) (lookup (same_tuple u) es))) p)
-        ∙ h))
-
-push_other : (t u : Tuple) (e : Progress) (es : ProgressTable) → same_tuple t u ≡ false →
-    lookup (same_tuple t) (es ++ (u, e) ∷ []) ≡ lookup (same_tuple t) es
-push_other t u e [] other = rw other refl
-push_other t u e (x ∷ es) other = ap (λ (o : Option Progress). cond (same_tuple t x.0) (Some x.1) o)
-    (push_other t u e es other)
+-- an age that is counted anew
+abbrev pub clear_age : Progress → Progress
+clear_age p = record p { age = 0 }
 
 -- the progress that was set is found, and each other as before
 pub progress_at-set_same : (table : ProgressTable) (u : Tuple) (p : Progress) →
@@ -59,8 +22,8 @@ progress_at-set_same table u p = by (is_some (lookup (same_tuple u) table)) refl
   where
     by : (b : Bool) → is_some (lookup (same_tuple u) table) ≡ b →
         progress_at (if b then set_value (same_tuple u) table p else table ++ (u, p) ∷ []) u ≡ p
-    by true h = ap (λ (o : Option Progress). unwrap_or o no_progress) (set_same u p table h)
-    by false h = ap (λ (o : Option Progress). unwrap_or o no_progress) (push_same u p table h)
+    by true h = ap (λ (o : Option Progress). unwrap_or o no_progress) (lookup-set_same u p table h)
+    by false h = ap (λ (o : Option Progress). unwrap_or o no_progress) (lookup-push_same u p table h)
 
 pub progress_at-set_other : (table : ProgressTable) (t u : Tuple) (p : Progress) → same_tuple t u ≡ false →
     progress_at (set_progress table u p) t ≡ progress_at table t
@@ -68,8 +31,8 @@ progress_at-set_other table t u p other = by (is_some (lookup (same_tuple u) tab
   where
     by : (b : Bool) → progress_at (if b then set_value (same_tuple u) table p else table ++ (u, p) ∷ []) t
         ≡ progress_at table t
-    by true = ap (λ (o : Option Progress). unwrap_or o no_progress) (set_other t u p table other)
-    by false = ap (λ (o : Option Progress). unwrap_or o no_progress) (push_other t u p table other)
+    by true = ap (λ (o : Option Progress). unwrap_or o no_progress) (lookup-set_other t u p table other)
+    by false = ap (λ (o : Option Progress). unwrap_or o no_progress) (lookup-push_other t u p table other)
 
 -- edges only grow
 pub edge_after_set : (table : ProgressTable) (t u : Tuple) (p : Progress) → (progress_at table u).edge ≤ p.edge →

@@ -1,6 +1,6 @@
 pub mod AckedLemmas
-pub mod CommitLemmas
 pub mod ElementLemmas
+pub mod FirstLemmas
 pub mod GrowthLemmas
 pub mod OrderLemmas
 pub mod ResetLemmas

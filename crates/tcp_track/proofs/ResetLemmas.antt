@@ -1,7 +1,6 @@
 -- The reset and the refusal that a line holds stand in what was sent.
-use Rattle.std.proofs.Common.{◌≡◌, ℕ, ◌&&◌, if◌then◌else◌, Bool, true, false, List, [], ◌∷◌, ◌++◌, append_assoc, append-nil, fold, filter_map, Option, None, Some, refl, sym, ap, subst, ◌∙◌, true≢false, is_some, max, min}
+use Rattle.std.proofs.Common.{◌≡◌, ℕ, ◌&&◌, if◌then◌else◌, Bool, true, false, List, [], ◌∷◌, ◌++◌, append_assoc, append-nil, filter_map, Option, None, Some, refl, sym, ap, subst, ◌∙◌, true≢false, is_some, max, min}
 use Rattle.std.proofs.lemmas.Bool.{and_left, cond-false}
-use Rattle.std.proofs.lemmas.List.Elements.{filter_map-append}
 use Rattle.inet_frame.specs.Counted.{tuple_of}
 use Rattle.inet_frame.specs.Fields.{TcpFields}
 use Rattle.inet_frame.specs.Flags.{has_rst}
@@ -11,7 +10,7 @@ use Rattle.tcp_track.specs.Stands.{opening_after, opening_of, is_of_client, Rese
 use Rattle.tcp_track.specs.Lines.{Item, Line, no_line, after_segment, opened_line, refused_line, line_with, line_after, line, segment_of, sent_of, sent, trim, commit, after_trim, trim_end}
 use Rattle.tcp_track.specs.declared.openings.Opening.{Opening}
 use Rattle.tcp_track.proofs.TupleLemmas.{same_tuple-eq}
-use Rattle.tcp_track.proofs.SymbolLemmas.{opening_more, not_opening, rst_opens_not}
+use Rattle.tcp_track.proofs.SymbolLemmas.{after_all, opening_more, not_opening, rst_opens_not}
 use Rattle.tcp_track.proofs.AckedLemmas.{with_opening, opens_nothing, opens_this, refusal_has_rst}
 
 -- the opening of a line is current in what was said, and its reset and refusal stand there
@@ -159,15 +158,6 @@ item_says t said l (trim u client to) h = subst (λ (xs : List TcpFields). Says 
     by false d = h
 item_says t said l commit h = subst (λ (xs : List TcpFields). Says t xs l) (sym (append-nil said)) h
 
-all_say : (t : Tuple) (said : List TcpFields) (l : Line) (items : List Item) → Says t said l →
-    Says t (said ++ filter_map segment_of items) (fold (line_after t) l items)
-all_say t said l [] h = subst (λ (xs : List TcpFields). Says t xs l) (sym (append-nil said)) h
-all_say t said l (i ∷ items) h =
-    subst (λ (xs : List TcpFields). Says t xs (fold (line_after t) (line_after t l i) items))
-    (append_assoc said (filter_map segment_of (i ∷ [])) (filter_map segment_of items)
-    ∙ ap (λ (xs : List TcpFields). said ++ xs) (sym (filter_map-append segment_of (i ∷ []) items)))
-    (all_say t (said ++ filter_map segment_of (i ∷ [])) (line_after t l i) items (item_says t said l i h))
-
 none_says : (t : Tuple) → Says t [] no_line
 unfolding opening_of
 none_says t = record {
@@ -179,9 +169,9 @@ none_says t = record {
 pub reset_stands : (items : List Item) (t : Tuple) (o : Opening) → (line t items).opening ≡ Some o →
     (line t items).reset ≡ true → ResetStands (sent_of items) t o.client
 unfolding line
-reset_stands items t o e r = (all_say t [] no_line items (none_says t)).reset o e r
+reset_stands items t o e r = (after_all t (Says t) (item_says t) [] no_line items (none_says t)).reset o e r
 
 pub refusal_stands : (items : List Item) (t : Tuple) (client : ℕ) → (line t items).refused ≡ Some client →
     RefusalStands (sent_of items) t client
 unfolding line
-refusal_stands items t client e = (all_say t [] no_line items (none_says t)).refused client e
+refusal_stands items t client e = (after_all t (Says t) (item_says t) [] no_line items (none_says t)).refused client e

@@ -234,19 +234,23 @@ item_fits t said l (trim u client to) h = subst (λ (xs : List TcpFields). Fits 
     (after_trim l client to) h (trimmed_opening l client to) (trimmed_symbols l client to)) (λ e. h))
 item_fits t said l commit h = subst (λ (xs : List TcpFields). Fits t xs l) (sym (append-nil said)) h
 
-all_fit : (t : Tuple) (said : List TcpFields) (l : Line) (items : List Item) → Fits t said l →
-    Fits t (said ++ filter_map segment_of items) (fold (line_after t) l items)
-all_fit t said l [] h = subst (λ (xs : List TcpFields). Fits t xs l) (sym (append-nil said)) h
-all_fit t said l (i ∷ items) h =
-    subst (λ (xs : List TcpFields). Fits t xs (fold (line_after t) (line_after t l i) items))
+-- what holds of no line and lasts from call to call holds after all
+pub after_all : (t : Tuple) (P : List TcpFields → Line → Type 0) →
+    ((said : List TcpFields) (l : Line) (i : Item) → P said l →
+    P (said ++ filter_map segment_of (i ∷ [])) (line_after t l i)) →
+    (said : List TcpFields) (l : Line) (items : List Item) → P said l →
+    P (said ++ filter_map segment_of items) (fold (line_after t) l items)
+after_all t P each said l [] h = subst (λ (xs : List TcpFields). P xs l) (sym (append-nil said)) h
+after_all t P each said l (i ∷ items) h =
+    subst (λ (xs : List TcpFields). P xs (fold (line_after t) (line_after t l i) items))
     (append_assoc said (filter_map segment_of (i ∷ [])) (filter_map segment_of items)
     ∙ ap (λ (xs : List TcpFields). said ++ xs) (sym (filter_map-append segment_of (i ∷ []) items)))
-    (all_fit t (said ++ filter_map segment_of (i ∷ [])) (line_after t l i) items (item_fits t said l i h))
+    (after_all t P each (said ++ filter_map segment_of (i ∷ [])) (line_after t l i) items (each said l i h))
 
 -- every symbol of a line stands in what was sent, and the line's opening is the current one
 pub line_fits : (t : Tuple) (items : List Item) → Fits t (filter_map segment_of items) (line t items)
 unfolding line opening_of
-line_fits t items = all_fit t [] no_line items (record {
+line_fits t items = after_all t (Fits t) (item_fits t) [] no_line items (record {
   opened = refl;
   stands = λ k x f. absurd (true≢false (sym (ap
       (λ (o : Option Symbol). is_some o) f)));

@@ -31,7 +31,9 @@ same_tuple-eq a b h =
 pub same_tuple-other : (t u k : Tuple) → same_tuple u k ≡ true → same_tuple t u ≡ false → same_tuple t k ≡ false
 same_tuple-other t u k at other = subst (λ (x : Tuple). same_tuple t x ≡ false) (same_tuple-eq u k at) other
 
-lookup-set_same : (u : Tuple) (e : Entry) (es : List (Tuple × Entry)) → is_some (lookup (same_tuple u) es) ≡ true →
+-- a table of any values
+pub lookup-set_same : {X : Type 0} (u : Tuple) (e : X) (es : List (Tuple × X)) →
+    is_some (lookup (same_tuple u) es) ≡ true →
     lookup (same_tuple u) (set_value (same_tuple u) es e) ≡ Some e
 lookup-set_same u e [] h = absurd (true≢false (sym h))
 lookup-set_same u e (x ∷ es) h = by (same_tuple u x.0) refl (lookup-set_same u e es)
@@ -43,18 +45,19 @@ lookup-set_same u e (x ∷ es) h = by (same_tuple u x.0) refl (lookup-set_same u
     by false p more = rw p (rw p (more (sym (ap (λ (b : Bool). is_some (cond b (Some x.1) (lookup
         (same_tuple u) es))) p) ∙ h)))
 
-lookup-set_other : (t u : Tuple) (e : Entry) (es : List (Tuple × Entry)) → same_tuple t u ≡ false →
+pub lookup-set_other : {X : Type 0} (t u : Tuple) (e : X) (es : List (Tuple × X)) → same_tuple t u ≡ false →
     lookup (same_tuple t) (set_value (same_tuple u) es e) ≡ lookup (same_tuple t) es
 lookup-set_other t u e [] other = refl
-lookup-set_other t u e (x ∷ es) other = by (same_tuple u x.0) refl (lookup-set_other t u e es other)
+lookup-set_other {X = X} t u e (x ∷ es) other = by (same_tuple u x.0) refl (lookup-set_other t u e es other)
   where
     by : (b : Bool) → same_tuple u x.0 ≡ b → lookup (same_tuple t) (set_value (same_tuple u) es e)
         ≡ lookup (same_tuple t) es → lookup (same_tuple t) (set_value (same_tuple u) (x ∷ es) e)
         ≡ lookup (same_tuple t) (x ∷ es)
     by true p more = let no = same_tuple-other t u x.0 p other in rw p (rw no refl)
-    by false p more = rw p (ap (λ (o : Option Entry). cond (same_tuple t x.0) (Some x.1) o) more)
+    by false p more = rw p (ap (λ (o : Option X). cond (same_tuple t x.0) (Some x.1) o) more)
 
-lookup-push_same : (u : Tuple) (e : Entry) (es : List (Tuple × Entry)) → is_some (lookup (same_tuple u) es) ≡ false →
+pub lookup-push_same : {X : Type 0} (u : Tuple) (e : X) (es : List (Tuple × X)) →
+    is_some (lookup (same_tuple u) es) ≡ false →
     lookup (same_tuple u) (es ++ (u, e) ∷ []) ≡ Some e
 lookup-push_same u e [] h = rw same_tuple-refl refl
 lookup-push_same u e (x ∷ es) h = by (same_tuple u x.0) refl (lookup-push_same u e es)
@@ -66,10 +69,10 @@ lookup-push_same u e (x ∷ es) h = by (same_tuple u x.0) refl (lookup-push_same
     by false p more = rw p (more (sym (ap (λ (b : Bool). is_some (cond b (Some x.1) (lookup (same_tuple u) es))) p)
         ∙ h))
 
-lookup-push_other : (t u : Tuple) (e : Entry) (es : List (Tuple × Entry)) → same_tuple t u ≡ false →
+pub lookup-push_other : {X : Type 0} (t u : Tuple) (e : X) (es : List (Tuple × X)) → same_tuple t u ≡ false →
     lookup (same_tuple t) (es ++ (u, e) ∷ []) ≡ lookup (same_tuple t) es
 lookup-push_other t u e [] other = rw other refl
-lookup-push_other t u e (x ∷ es) other = ap (λ (o : Option Entry). cond (same_tuple t x.0) (Some x.1) o)
+lookup-push_other {X = X} t u e (x ∷ es) other = ap (λ (o : Option X). cond (same_tuple t x.0) (Some x.1) o)
     (lookup-push_other t u e es other)
 
 -- the entry that was put is found, and each other as before

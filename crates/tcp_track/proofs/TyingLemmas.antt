@@ -437,7 +437,7 @@ ne-eqb a b ne = by (a == b) refl
     by true p = absurd (ne (eqb-true a b p))
     by false p = refl
 
-drop-syn : (base to : ℕ) (is_open : Bool) (xs : List Symbol) → base < to → is_open ≡ true →
+pub drop-syn : (base to : ℕ) (is_open : Bool) (xs : List Symbol) → base < to → is_open ≡ true →
     drop (to - base) ((if is_open && base == 0 then syn ∷ [] else []) ++ xs) ≡ drop (to - max base 1) xs
 drop-syn base to is_open xs h o = by (base == 0) refl
   where

@@ -2,14 +2,15 @@
 use Rattle.std.proofs.Common.{◌≡◌, ℕ, length, slice_get, Some, ap, subst, ◌∙◌, add-one, arith}
 use Rattle.std.specs.Map.{values_of}
 use Rattle.settle_rules.specs.Progress.{ProgressTable}
-use Rattle.settle_table.proofs.AgeLemmas.{clear_first, clear_first-suc, clear_first-all, length-clear_first}
+use Rattle.settle_table.proofs.TableLemmas.{clear_age}
+use Rattle.tcp_track.proofs.FirstLemmas.{change_first, change_first-suc, change_first-all, length-change_first}
 use Rattle.settle_table.proofs.progress_table.clear_ages.Goals as goal
 
 pub index_mut-progress-requires : goal.index_mut-progress-requires
 index_mut-progress-requires c = omega (
   arith,
   ap length c.loop-k.invariant,
-  length-clear_first c.loop-k.k c.args.table.now.entries,
+  length-change_first clear_age c.loop-k.k c.args.table.now.entries,
   c.len-k-end.ensures.len,
   c.loop-k-test.true,
 )
@@ -17,11 +18,12 @@ index_mut-progress-requires c = omega (
 pub loop-k-preserved : goal.loop-k-preserved
 loop-k-preserved c =
     let k = c.loop-k.k in
-    let done = clear_first k c.args.table.now.entries in
+    let done = change_first clear_age k c.args.table.now.entries in
     let old = c.index_mut-progress.result.now in
     let at : slice_get (values_of done) k ≡ Some old = subst (λ (es : ProgressTable). slice_get
     (values_of es) k ≡ Some old) c.loop-k.invariant c.index_mut-progress.ensures.value in
-    rw (add-one, c.clear_age.ensures, c.loop-k.invariant) (clear_first-suc k c.args.table.now.entries old at)
+    rw (add-one, c.clear_age.ensures, c.loop-k.invariant)
+    (change_first-suc clear_age k c.args.table.now.entries old at)
 
 pub returns : goal.returns
 returns c =
@@ -32,4 +34,4 @@ returns c =
       c.loop-k-test.false,
       c.len-k-end.ensures.len,
     ) in
-    c.loop-k.invariant ∙ (ap (λ (n : ℕ). clear_first n es) all ∙ clear_first-all es)
+    c.loop-k.invariant ∙ (ap (λ (n : ℕ). change_first clear_age n es) all ∙ change_first-all clear_age es)
