@@ -51,7 +51,7 @@ held_untrimmed : (mine : Tracking) (table : ProgressTable) (t : Tuple) → AreUn
 held_untrimmed mine table t h = by (entry_of mine.entries t) refl
   where
     by : (o : Option Entry) → entry_of mine.entries t ≡ o
-    → IsUntrimmed (unwrap_or o no_entry).line (progress_at table t).edge
+        → IsUntrimmed (unwrap_or o no_entry).line (progress_at table t).edge
     by None p = λ o. absurd (true≢false (sym o))
     by (Some e) p = h t e.line (ap (λ (o : Option Entry). option_map (λ (x : Entry). x.line) o) p)
 
