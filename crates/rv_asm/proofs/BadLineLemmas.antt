@@ -10,8 +10,8 @@ use Rattle.rv_asm.specs.declared.places.Place.{Place}
 use Rattle.rv_asm.specs.Lines.{line_of, word_count, is_named, place_from, place_of, words_at}
 use Rattle.rv_asm.specs.Program.{Bad, stands_before, label_is_given, statement_words, and_later, with_before, line_words, program_from, program}
 use Rattle.rv_asm.specs.Refusals.{GivesLabel, RepeatsLabel, StatementStops, IsBadLine, IsFirstBad, words_before}
-use Rattle.rv_asm.proofs.FoundLemmas.{failed}
-use Rattle.rv_asm.proofs.RefusalLemmas.{Tells, err_is, statement_tells}
+use Rattle.rv_asm.proofs.OperandLemmas.{Tells, tells}
+use Rattle.rv_asm.proofs.StatementLemmas.{statement_reads}
 
 -- ---- the line at an index
 
@@ -146,8 +146,8 @@ line_tells lines i here text is before = by_label (label_is_given (place_of line
           statement,
           is,
           said,
-          rw (sym before) ((statement_tells (words_at
-              (place_of lines)) here statement why).0 e),
+          rw (sym before) ((tells (statement_reads
+              (words_at (place_of lines)) here statement) why).0 e),
         )
 
     stops : (why : Why) → StatementStops lines i why
@@ -156,14 +156,14 @@ line_tells lines i here text is before = by_label (label_is_given (place_of line
         let is_text = h.2 in
         let same : text ≡ h.0 = cc in
         let said : (line_of text).statement ≡ Some h.1 = ap (λ (t : List ℕ). (line_of t).statement) same ∙ h.3 in
-        rw (said, before) ((statement_tells (words_at (place_of lines)) (words_before lines i) h.1 why).1 h.4)
+        rw (said, before) ((tells (statement_reads (words_at (place_of lines)) (words_before lines i) h.1) why).1 h.4)
 
     by_label : (b : Bool) → label_is_given (place_of lines) i (line_of text).label ≡ b
         → Tells (cond b (Err Label) (statement_words (words_at (place_of lines)) here (line_of text).statement))
         (IsBadLine lines i)
     by_label true given why =
         let twice = (repeats lines i text is).0 given in
-        (λ e. inl (twice, err_is Label why e), λ h. elim h [ inl r ↦ rw r.1 refl | inr s ↦ absurd (s.0 twice) ])
+        (λ e. inl (twice, cc), λ h. elim h [ inl r ↦ rw r.1 refl | inr s ↦ absurd (s.0 twice) ])
     by_label false once why =
         let no : RepeatsLabel lines i → ⊥ = λ r. let yes = (repeats lines i text is).1 r in absurd cc in (
           λ e. inr (no, statement_stops why e),
@@ -219,8 +219,11 @@ later_first lines i words later good finds bad = (by later refl, only)
           )) refl
     ]
 
+abbrev failed : Why → Result (List ℕ) Why
+failed why = Err why
+
 -- a bad line is the first from there on
-this_first : (lines : List (List ℕ)) (i : ℕ) (why : Why) → Tells (failed {A = List ℕ} why) (IsBadLine lines i)
+this_first : (lines : List (List ℕ)) (i : ℕ) (why : Why) → Tells (failed why) (IsBadLine lines i)
     → FindsFirst lines i (Err (record { line = i + 1; why = why }))
 this_first lines i why tells bad = (
   λ e.
@@ -231,7 +234,7 @@ this_first lines i why tells bad = (
   λ h. elim (here_or_later i h.0 h.1) [
     | inl at ↦
         let read = (tells bad.why).1 (subst (λ (n : ℕ). IsBadLine lines n bad.why) at h.3) in
-        let same : why ≡ bad.why = sym (err_is why bad.why read) in
+        let same : why ≡ bad.why = cc in
         let line : bad.line ≡ i + 1 = h.2 ∙ ap (λ (n : ℕ). n + 1) at in
         rw (same, sym line) refl
     | inr after ↦ absurd (h.4 i why (omega arith) (omega (arith, after)) ((tells why).0 refl))

@@ -1,11 +1,11 @@
 -- The text of a word assembles to the word, on one line.
-use Rattle.std.proofs.Common.{◌≡◌, ℕ, ◌<◌, ◌^◌, Bool, true, false, not, ◌||◌, List, [], ◌∷◌, length, Option, Some, None, Ok, eqb, refl, sym, ap, ◌∙◌, inl, inr, arith}
+use Rattle.std.proofs.Common.{◌≡◌, ℕ, ◌<◌, ◌^◌, Bool, true, false, not, ◌||◌, List, [], ◌∷◌, length, Option, Some, None, Ok, eqb, refl, ap, inl, inr, arith}
 use Rattle.std.specs.Prelude.{codes, IsTrue}
 use Rattle.std.specs.List.{list_all, slice_split}
-use Rattle.std.proofs.lemmas.Bool.{and_parts, ne_eqb, eq-eqb, eqb-true, or_right}
+use Rattle.std.proofs.lemmas.Bool.{and_parts, ne_eqb, eq-eqb, or_right}
 use Rattle.std.proofs.lemmas.List.{length-append}
 use Rattle.shared_definitions.specs.Ascii.{comma, space, colon, newline}
-use Rattle.ascii_text.specs.Cuts.{Halves, cut}
+use Rattle.ascii_text.specs.Cuts.{cut}
 use Rattle.rv_isa.specs.Fields.{aq, rl}
 use Rattle.rv_forms.specs.declared.kinds.Operands.{Operands}
 use Rattle.rv_forms.specs.declared.kinds.Kind.{Kind}
@@ -13,15 +13,16 @@ use Rattle.rv_forms.specs.declared.kinds.Kind.TheVariants as kinds
 use Rattle.rv_forms.specs.Forms.{kinds_of, operands_of}
 use Rattle.rv_forms.specs.Mnemonics.{Mnemonic, mnemonic_of}
 use Rattle.rv_forms.specs.Names.{name_text}
-use Rattle.rv_forms.proofs.NameLemmas.{is_name_byte, fitting_found, name_bytes, name_some}
+use Rattle.rv_forms.proofs.NameLemmas.{other_byte, cut_whole, is_name_byte, fitting_found, name_facts}
 use Rattle.rv_forms.proofs.WordLemmas.{operands_in_range}
-use Rattle.rv_asm.specs.Grammar.{IsStatementText, IsStatement}
+use Rattle.rv_asm.specs.Grammar.{AreOperandTexts, IsStatementText, IsStatement}
 use Rattle.rv_asm.specs.Lines.{label_of, line_of, place_of, words_at}
 use Rattle.rv_asm.specs.Program.{line_words, program_from, program, Assembles}
 use Rattle.rv_asm.specs.Statements.{blank, statement}
 use Rattle.rv_asm.specs.Texts.{data_text, text_by, text_of, is_one_line}
-use Rattle.rv_asm.proofs.ByteLemmas.{cut_whole, cut_before, weaken, joined_all, is_operand_byte, operands_bytes}
-use Rattle.rv_asm.proofs.OnlyLemmas.{statement_only}
+use Rattle.rv_asm.proofs.ByteLemmas.{weaken, joined_all, is_operand_byte}
+use Rattle.rv_asm.proofs.OperandLemmas.{kind_is}
+use Rattle.rv_asm.proofs.StatementLemmas.{name_cut, statement_only}
 use Rattle.rv_asm.proofs.TextLemmas.{statement_written}
 
 -- ---- a line with a statement alone
@@ -37,6 +38,15 @@ from_name c e = rw e refl
 from_operand : (c : ℕ) → is_operand_byte c ≡ true → is_line_byte c ≡ true
 unfolding is_line_byte
 from_operand c e = or_right (is_name_byte c) (is_operand_byte c || (eqb c comma || eqb c space)) (rw e refl)
+
+operands_bytes : (places : List ℕ → Option ℕ) (here : ℕ) (kind : Kind) (more : List Kind) (text : List ℕ)
+    (f : Operands) → AreOperandTexts places here kind more text f → list_all is_line_byte text ≡ true
+unfolding is_line_byte
+operands_bytes places here kind [] text f h = weaken is_operand_byte is_line_byte text from_operand ((kind_is places
+    here kind text).bytes f h)
+operands_bytes places here kind (next ∷ more) text f h =
+    rw h.2 (joined_all is_line_byte h.0 (comma ∷ space ∷ h.1) (weaken is_operand_byte is_line_byte h.0 from_operand
+    ((kind_is places here kind h.0).bytes f h.3)) (operands_bytes places here next more h.1 f h.4))
 
 not_newline : is_line_byte newline ≡ false
 unfolding is_line_byte
@@ -67,26 +77,28 @@ line_by name text plain is some = rw (
   )),
 ) refl
 
-is_line : (places : List ℕ → Option ℕ) (here : ℕ) (name : List ℕ) (kinds : List Kind) (text : List ℕ)
-    (f : Operands) → list_all is_name_byte name ≡ true → 0 < length name →
-    IsStatementText places here name kinds text f → IsLine text
-unfolding is_line_byte
-is_line places here name [] text f plain some h = record {
-  bytes = rw h (weaken is_name_byte is_line_byte name from_name plain);
-  alone = line_by name text plain (ap (λ (t : List ℕ). (cut space t).before) h
-      ∙ ap (λ (q : Halves). q.before) (cut_whole is_name_byte space name plain refl)) (rw h some);
-}
-is_line places here name (kind ∷ more) text f plain some h = record {
-  bytes = rw h.1 (joined_all is_line_byte name (space ∷ h.0)
-      (weaken is_name_byte is_line_byte name from_name plain)
-      (operands_bytes is_line_byte from_operand refl refl places here kind more h.0 f h.2));
-  alone = line_by name text plain (ap (λ (t : List ℕ). (cut space t).before) h.1
-      ∙ ap (λ (q : Halves). q.before) (cut_before is_name_byte space name h.0 plain refl)) (omega (
-        arith,
-        ap length h.1,
-        length-append name (space ∷ h.0),
-      ));
-}
+module _ (places : List ℕ → Option ℕ) (here : ℕ) (name : List ℕ) where
+  -- the bytes of the text, and that there are any
+  text_facts : (kinds : List Kind) (text : List ℕ) (f : Operands) → list_all is_name_byte name ≡ true →
+      0 < length name → IsStatementText places here name kinds text f →
+      (list_all is_line_byte text ≡ true) × (0 < length text)
+  unfolding is_line_byte
+  text_facts [] text f plain some h = rw h (weaken is_name_byte is_line_byte name from_name plain, some)
+  text_facts (kind ∷ more) text f plain some h = (
+    rw h.1 (joined_all is_line_byte name (space ∷ h.0) (weaken is_name_byte is_line_byte name from_name plain)
+        (operands_bytes places here kind more h.0 f h.2)),
+    omega (arith, ap length h.1, length-append name (space ∷ h.0)),
+  )
+
+  is_line : (kinds : List Kind) (text : List ℕ) (f : Operands) → (list_all is_name_byte name ≡ true) × (0 < length name)
+      → IsStatementText places here name kinds text f → IsLine text
+  is_line kinds text f plain h =
+      let facts = text_facts kinds text f plain.0 plain.1 h in
+      record {
+        bytes = facts.0;
+        alone = line_by name text plain.0 (name_cut places here name kinds text f plain.0 h).0
+            facts.1;
+      }
 
 -- ---- a text of one line
 
@@ -94,17 +106,11 @@ split_none : (xs : List ℕ) → list_all is_line_byte xs ≡ true → slice_spl
 split_none [] all = refl
 split_none (x ∷ xs) all =
     let b = and_parts (is_line_byte x) (list_all is_line_byte xs) all in
-    let other : (x ≡ newline → ⊥) = λ e. let h : is_line_byte newline ≡ true = ap is_line_byte (sym e)
-    ∙ b.0 in let no = not_newline in cc in
-    rw (ne_eqb x newline other, split_none xs b.1) refl
+    rw (ne_eqb x newline (other_byte is_line_byte x newline b.0 not_newline), split_none xs b.1) refl
 
 one_line : (xs : List ℕ) → list_all is_line_byte xs ≡ true → is_one_line xs ≡ true
-one_line xs all = weaken is_line_byte (λ c. not (eqb c newline)) xs (λ c e. by c (eqb c newline) refl e) all
-  where
-    by : (c : ℕ) (b : Bool) → eqb c newline ≡ b → is_line_byte c ≡ true → not b ≡ true
-    by c false e h = refl
-    by c true e h = let g : is_line_byte newline ≡ true = ap is_line_byte (sym (eqb-true c newline e))
-        ∙ h in let never = not_newline in absurd cc
+one_line xs all = weaken is_line_byte (λ c. not (eqb c newline)) xs (λ c e. rw
+    (ne_eqb c newline (other_byte is_line_byte c newline e not_newline)) refl) all
 
 program_by : (text : List ℕ) (word : ℕ) → IsLine text → statement (places_of text) 0 text ≡ Ok (word ∷ []) →
     Assembles text (word ∷ [])
@@ -124,7 +130,7 @@ is_text : (o : Option Mnemonic) (word : ℕ) → word < 2 ^ 32 → mnemonic_of w
 is_text None word below e =
     let f : Operands = record (blank false false) { wide = word } in
     record {
-      line = is_line nowhere 0 (codes ".word") (kinds.Word ∷ []) (data_text word) f refl (omega arith)
+      line = is_line nowhere 0 (codes ".word") (kinds.Word ∷ []) (data_text word) f (refl, omega arith)
           (statement_written nowhere 0 (codes ".word") (kinds.Word ∷ []) f (below, tt));
       means = λ places here. inr (inl (record {
         word = word;
@@ -139,9 +145,8 @@ is_text (Some m) word below e =
     let f : Operands = operands_of m.syntax word in
     let ranges = operands_in_range m.syntax word below in
     record {
-      line = is_line nowhere 0 name (kinds_of m.syntax) (text_by (Some m) word) f (name_bytes m (aq word)
-          (rl word) found.0) (name_some m (aq word) (rl word) found.0) (statement_written nowhere 0 name
-          (kinds_of m.syntax) f ranges);
+      line = is_line nowhere 0 name (kinds_of m.syntax) (text_by (Some m) word) f (name_facts m (aq word) (rl word)
+          found.0) (statement_written nowhere 0 name (kinds_of m.syntax) f ranges);
       means = λ places here. inl (record {
         mnemonic = m;
         word = word;

@@ -1,11 +1,9 @@
 pub mod BadLineLemmas
 pub mod ByteLemmas
-pub mod FoundLemmas
 pub mod LabelLemmas
 pub mod LawLemmas
 pub mod LoadLemmas
-pub mod OnlyLemmas
+pub mod OperandLemmas
 pub mod ProgramLemmas
-pub mod RangeLemmas
-pub mod RefusalLemmas
+pub mod StatementLemmas
 pub mod TextLemmas

@@ -21,10 +21,6 @@ twice : (before words : List ℕ) (later : Result (List ℕ) Bad) →
 twice before words (Ok more) = ap (λ (ws : List ℕ). Ok ws) (sym (append_assoc before words more))
 twice before words (Err bad) = refl
 
-nothing_before : (later : Result (List ℕ) Bad) → with_before [] later ≡ later
-nothing_before (Ok words) = refl
-nothing_before (Err bad) = refl
-
 -- one line more
 at_line : (places : List ℕ → Option Place) (lines : List (List ℕ)) (i here : ℕ) (text : List ℕ) →
     drop i lines ≡ text ∷ drop (suc i) lines
@@ -44,9 +40,6 @@ line_end [] zero past = refl
 line_end [] (suc i) past = refl
 line_end (line ∷ lines) zero past = absurd (omega arith)
 line_end (line ∷ lines) (suc i) past = line_end lines i (omega arith)
-
-pub read_none : (places : List ℕ → Option Place) (lines : List (List ℕ)) → HasRead places lines 0 0 []
-read_none places lines = ([], nothing_before (program_from places lines 0 0), refl)
 
 pub read_more : (places : List ℕ → Option Place) (lines : List (List ℕ)) (i here : ℕ) (text old new : List ℕ) →
     drop i lines ≡ text ∷ drop (suc i) lines → WritesWords (line_words places i here text) old new →

@@ -31,29 +31,17 @@ register_written : (r : ℕ) → r < 32 → register_of (register_text r) ≡ So
 unfolding register_of
 register_written r small = rw (decimal_each 31 (decimal r) r (omega arith) (omega arith) refl) refl
 
-number_by : (low high : ℕ) (text : List ℕ) → (get_or text 0 0 ≡ minus → ⊥) → (get_or text 0 0 ≡ 48 → ⊥) →
-    number_within low high text ≡ with_sign false (decimal_within high text)
-unfolding number_within
-number_by low high text no_sign no_zero = rw (
-  ne_eqb (get_or text 0 0) minus no_sign,
-  ne_eqb (get_or text 0 0) 48 no_zero,
-) refl
-
-number_zero : (low high : ℕ) → number_within low high (48 ∷ []) ≡ with_sign false (decimal_within high (48 ∷ []))
-unfolding number_within
-number_zero low high = refl
-
 -- a decimal number has no sign, and no `0x` in front
 number_plain : (low high n : ℕ) → n < 2 ^ 64 → number_within low high (decimal n)
     ≡ with_sign false (decimal_within high (decimal n))
+unfolding number_within
 number_plain low high n small =
     elim (cases_lt 0 n) [
-      | inl some ↦ number_by low high (decimal n) (λ e. omega (
-        arith,
-        e,
-        first_decimal n some small,
-      )) (λ e. omega (arith, e, first_decimal n some small))
-      | inr none ↦ let e : n ≡ 0 = omega arith in rw (e, decimal_digit 0 (omega arith)) (number_zero low high)
+      | inl some ↦ rw (
+        ne_eqb (get_or (decimal n) 0 0) minus (λ e. omega (arith, e, first_decimal n some small)),
+        ne_eqb (get_or (decimal n) 0 0) 48 (λ e. omega (arith, e, first_decimal n some small)),
+      ) refl
+      | inr none ↦ let e : n ≡ 0 = omega arith in rw (e, decimal_digit 0 (omega arith)) refl
     ]
 
 abbrev plain : ℕ → Number

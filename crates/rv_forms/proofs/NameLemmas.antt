@@ -1,5 +1,5 @@
 -- A name is read as the mnemonic that it is.
-use Rattle.std.proofs.Common.{◌≡◌, ℕ, suc, ◌/◌, ◌%◌, ◌^◌, ◌<◌, Bool, true, false, ◌&&◌, ◌||◌, cond, List, [], ◌∷◌, ◌++◌, length, get_or, Option, Some, None, bit_and, ◌==◌, ltb, MatchOption, refl, sym, ap, subst, ◌∙◌, eqb-true, arith}
+use Rattle.std.proofs.Common.{◌≡◌, ℕ, suc, ◌<◌, Bool, true, false, ◌&&◌, ◌||◌, cond, List, [], ◌∷◌, ◌++◌, length, get_or, Option, Some, None, bit_and, ◌==◌, ltb, MatchOption, refl, sym, ap, subst, ◌∙◌, eqb-true, eq-eqb, arith}
 use Rattle.std.specs.Prelude.{codes, Contains, is_none, option_and_then}
 use Rattle.std.specs.Bool.{OnFalse}
 use Rattle.std.specs.Char.{is_ascii_alphanumeric}
@@ -12,13 +12,11 @@ use Rattle.std.proofs.lemmas.Slice.Eq.{bytes_eq-Decides}
 use Rattle.shared_definitions.specs.Ascii.{full_stop}
 use Rattle.ascii_text.specs.Cuts.{Halves, cut}
 use Rattle.ascii_text.proofs.CutLemmas.{cut_parts}
-use Rattle.rv_forms.specs.declared.kinds.Syntax.{Syntax}
-use Rattle.rv_forms.specs.declared.kinds.Syntax.TheVariants.{UType, JType, IType, ShiftType, LoadType, SType, BType, RType, CsrType, CsrNumberType, Exact, LrType, AmoType}
 use Rattle.rv_forms.specs.Forms.{mask_of, is_ordered}
 use Rattle.rv_forms.specs.Mnemonics.{Mnemonic, mnemonics, are_rising, fits, mnemonic_of}
 use Rattle.rv_forms.specs.Names.{Name, order_text, name_text, order_of, order_after, named, with_order, base_of, name_by, name_of}
 use Rattle.rv_forms.proofs.TableLemmas.{all_at, found_at}
-use Rattle.rv_forms.proofs.WordLemmas.{IsFixed}
+use Rattle.rv_forms.proofs.WordLemmas.{is_fixed}
 
 -- ---- a row of the table
 
@@ -35,10 +33,6 @@ find_found p (x ∷ xs) y e = find_by (p x) p x y xs refl (find_found p xs y) e
 row_passes : (p : Mnemonic → Bool) (ms : List Mnemonic) (m : Mnemonic) → list_all p ms ≡ true → Contains ms m →
     p m ≡ true
 row_passes p ms m all c = ap p (sym c.2) ∙ all_at p ms c.0 m all c.1
-
-abbrev is_fixed : Syntax → ℕ → Bool
-is_fixed LrType v = bit_and v 0xF9F0707F == v && v / 2 ^ 20 % 2 ^ 5 == 0
-is_fixed syntax v = bit_and v (mask_of syntax) == v
 
 abbrev pub is_name_byte : ℕ → Bool
 is_name_byte c = is_ascii_alphanumeric c || c == full_stop
@@ -64,24 +58,8 @@ rows_rising : are_rising mnemonics ≡ true
 unfolding mnemonics
 rows_rising = refl
 
-fixed_from : (syntax : Syntax) (v : ℕ) → is_fixed syntax v ≡ true → IsFixed syntax v
-fixed_from LrType v e = let b = and_parts (bit_and v 0xF9F0707F == v) (v / 2 ^ 20 % 2 ^ 5 == 0) e in
-    (eqb-true _ _ b.0, eqb-true _ _ b.1)
-fixed_from UType v e = eqb-true _ _ e
-fixed_from JType v e = eqb-true _ _ e
-fixed_from IType v e = eqb-true _ _ e
-fixed_from ShiftType v e = eqb-true _ _ e
-fixed_from LoadType v e = eqb-true _ _ e
-fixed_from SType v e = eqb-true _ _ e
-fixed_from BType v e = eqb-true _ _ e
-fixed_from RType v e = eqb-true _ _ e
-fixed_from CsrType v e = eqb-true _ _ e
-fixed_from CsrNumberType v e = eqb-true _ _ e
-fixed_from Exact v e = eqb-true _ _ e
-fixed_from AmoType v e = eqb-true _ _ e
-
-pub row_is_fixed : (m : Mnemonic) → Contains mnemonics m → IsFixed m.syntax m.value
-row_is_fixed m c = fixed_from m.syntax m.value (row_passes (λ x. is_fixed x.syntax x.value) mnemonics m rows_fixed c)
+pub row_is_fixed : (m : Mnemonic) → Contains mnemonics m → is_fixed m.syntax m.value ≡ true
+row_is_fixed m c = row_passes (λ x. is_fixed x.syntax x.value) mnemonics m rows_fixed c
 
 pub named_row : (m : Mnemonic) → Contains mnemonics m → named m.name ≡ Some m
 unfolding named
@@ -116,43 +94,42 @@ order_again true true = refl
 abbrev bits : Bool → Bool → Option (Bool × Bool)
 bits aq rl = Some (aq, rl)
 
-abbrev first_bit : Option (Bool × Bool) → Bool
-first_bit None = false
-first_bit (Some b) = b.0
+order_by : (a b c d : Bool) (o : Bool × Bool) (In : Bool × Bool → Type 0) → (a ≡ true → In (false, false)) → (b ≡ true →
+    In (true, false)) → (c ≡ true → In (false, true)) → (d ≡ true → In (true, true)) → cond a (bits false false) (cond b
+    (bits true false) (cond c (bits false true) (cond d (bits true true) None))) ≡ Some o → In o
+order_by true b c d o In x y z w e = let same : (false, false) ≡ o = cc in subst In same (x refl)
+order_by false true c d o In x y z w e = let same : (true, false) ≡ o = cc in subst In same (y refl)
+order_by false false true d o In x y z w e = let same : (false, true) ≡ o = cc in subst In same (z refl)
+order_by false false false true o In x y z w e = let same : (true, true) ≡ o = cc in subst In same (w refl)
+order_by false false false false o In x y z w e = absurd cc
 
-abbrev last_bit : Option (Bool × Bool) → Bool
-last_bit None = false
-last_bit (Some b) = b.1
-
-order_by : (a b c d : Bool) (aq rl : Bool) (In : Bool → Bool → Type 0) → (a ≡ true → In false false) → (b ≡ true →
-    In true false) → (c ≡ true → In false true) → (d ≡ true → In true true)
-    → cond a (bits false false) (cond b (bits true false) (cond c (bits false true) (cond d
-    (bits true true) None))) ≡ bits aq rl → In aq rl
-order_by true b c d aq rl In x y z w e = rw (← ap first_bit e, ← ap last_bit e) (x refl)
-order_by false true c d aq rl In x y z w e = rw (← ap first_bit e, ← ap last_bit e) (y refl)
-order_by false false true d aq rl In x y z w e = rw (← ap first_bit e, ← ap last_bit e) (z refl)
-order_by false false false true aq rl In x y z w e = rw (← ap first_bit e, ← ap last_bit e) (w refl)
-order_by false false false false aq rl In x y z w e = absurd cc
-
-order_found : (text : List ℕ) (aq rl : Bool) → order_of text ≡ Some (aq, rl) → text ≡ order_text aq rl
-order_found text aq rl e =
+order_found : (text : List ℕ) (o : Bool × Bool) → order_of text ≡ Some o → text ≡ order_text o.0 o.1
+order_found text o e =
+    let is = λ (word : List ℕ). (bytes_eq-Decides text word).0 in
     order_by (bytes_eq text (codes "w")) (bytes_eq text (codes "w.aq")) (bytes_eq text (codes "w.rl"))
-    (bytes_eq text (codes "w.aqrl")) aq rl (λ p q. text ≡ order_text p q)
-    (λ h. (bytes_eq-Decides text (codes "w")).0 h) (λ h. (bytes_eq-Decides text (codes "w.aq")).0 h) (λ h.
-    (bytes_eq-Decides text (codes "w.rl")).0 h) (λ h. (bytes_eq-Decides text (codes "w.aqrl")).0 h) e
+    (bytes_eq text (codes "w.aqrl")) o (λ p. text ≡ order_text p.0 p.1) (is (codes "w")) (is (codes "w.aq"))
+    (is (codes "w.rl")) (is (codes "w.aqrl")) e
 
 -- ---- names
 
-other_byte : (c d : ℕ) → is_ascii_alphanumeric c ≡ true → is_ascii_alphanumeric d ≡ false → c ≡ d → ⊥
-other_byte c d is_in is_out e = let h : is_ascii_alphanumeric d ≡ true = ap is_ascii_alphanumeric (sym e)
-    ∙ is_in in cc
+pub other_byte : (P : ℕ → Bool) (x c : ℕ) → P x ≡ true → P c ≡ false → x ≡ c → ⊥
+other_byte P x c is_in is_out e = let h : P c ≡ true = ap P (sym e) ∙ is_in in cc
 
-cut_after : (name rest : List ℕ) → list_all is_ascii_alphanumeric name ≡ true →
-    cut full_stop (name ++ full_stop ∷ rest) ≡ record { before = name; after = Some rest }
-cut_after [] rest all = refl
-cut_after (c ∷ cs) rest all =
-    let b = and_parts (is_ascii_alphanumeric c) (list_all is_ascii_alphanumeric cs) all in
-    rw (ne_eqb c full_stop (other_byte c full_stop b.0 refl), cut_after cs rest b.1) refl
+-- a byte that isn't among those of a text cuts nothing off
+pub cut_whole : (P : ℕ → Bool) (c : ℕ) (xs : List ℕ) → list_all P xs ≡ true → P c ≡ false →
+    cut c xs ≡ record { before = xs; after = None }
+cut_whole P c [] all is_out = refl
+cut_whole P c (x ∷ xs) all is_out =
+    let b = and_parts (P x) (list_all P xs) all in
+    rw (ne_eqb x c (other_byte P x c b.0 is_out), cut_whole P c xs b.1 is_out) refl
+
+-- and where it stands after them, it cuts there
+pub cut_before : (P : ℕ → Bool) (c : ℕ) (xs rest : List ℕ) → list_all P xs ≡ true → P c ≡ false →
+    cut c (xs ++ c ∷ rest) ≡ record { before = xs; after = Some rest }
+cut_before P c [] rest all is_out = rw (eq-eqb c c refl) refl
+cut_before P c (x ∷ xs) rest all is_out =
+    let b = and_parts (P x) (list_all P xs) all in
+    rw (ne_eqb x c (other_byte P x c b.0 is_out), cut_before P c xs rest b.1 is_out) refl
 
 none_is : (o : Option (Bool × Bool)) → is_none o ≡ true → o ≡ None
 none_is None e = refl
@@ -169,7 +146,8 @@ again_by true m aq rl is plain row order =
     let text : List ℕ = m.name ++ full_stop ∷ order_text aq rl in
     let f : Option (Bool × Bool) → Option Name = λ o. option_and_then (with_order o) (named
     (base_of o text m.name)) in
-    ap (λ (h : Halves). name_by text h) (cut_after m.name (order_text aq rl) plain) ∙ (ap f (order_again aq rl)
+    ap (λ (h : Halves). name_by text h) (cut_before is_ascii_alphanumeric full_stop m.name (order_text aq rl)
+    plain refl) ∙ (ap f (order_again aq rl)
     ∙ rw (row, is) refl)
 again_by false m aq rl is plain row order =
     let f : Option (Bool × Bool) → Option Name = λ o. option_and_then (with_order o) (named (base_of o m.name
@@ -225,7 +203,7 @@ found_by None (Some order) text n cuts is e = absurd cc
 found_by (Some after) (Some order) text n cuts is e =
     let r = some_row (named (cut full_stop text).before) (with_order (Some order)) n e in
     let f = named_found (cut full_stop text).before r.0 r.1 in
-    let rest : after ≡ order_text order.0 order.1 = order_found after order.0 order.1 is in
+    let rest : after ≡ order_text order.0 order.1 = order_found after order is in
     let joined : text ≡ r.0.name ++ full_stop ∷ order_text order.0 order.1 = cut_joins text after cuts
     ∙ rw (f.1, rest) refl in
     ordered_name (is_ordered r.0.syntax) text after r.0 order.0 order.1 n refl f.0 joined r.2
@@ -242,26 +220,19 @@ order_bytes true false = refl
 order_bytes false true = refl
 order_bytes true true = refl
 
-bytes_by : (b : Bool) (name : List ℕ) (aq rl : Bool) → list_all is_name_byte name ≡ true →
-    list_all is_name_byte (cond b (name ++ full_stop ∷ order_text aq rl) name) ≡ true
-bytes_by true name aq rl all = list_all-append is_name_byte name (full_stop ∷ order_text aq rl)
-    ∙ rw (all, order_bytes aq rl) refl
-bytes_by false name aq rl all = all
-
--- letters, digits and full stops
-pub name_bytes : (m : Mnemonic) (aq rl : Bool) → Contains mnemonics m →
-    list_all is_name_byte (name_text m aq rl) ≡ true
-name_bytes m aq rl c = bytes_by (is_ordered m.syntax) m.name aq rl (and_parts (list_all is_name_byte m.name) (ltb 0
-    (length m.name)) (row_passes (λ x. list_all is_name_byte x.name && ltb 0
-    (length x.name)) mnemonics m rows_named c)).0
-
-some_by : (b : Bool) (name : List ℕ) (aq rl : Bool) → 0 < length name →
-    0 < length (cond b (name ++ full_stop ∷ order_text aq rl) name)
-some_by true name aq rl some = omega (arith, length-append name (full_stop ∷ order_text aq rl))
-some_by false name aq rl some = some
-
--- a name has a byte
-pub name_some : (m : Mnemonic) (aq rl : Bool) → Contains mnemonics m → 0 < length (name_text m aq rl)
-name_some m aq rl c = some_by (is_ordered m.syntax) m.name aq rl (ltb-true 0 (length m.name) (and_parts
-    (list_all is_name_byte m.name) (ltb 0 (length m.name)) (row_passes (λ x. list_all is_name_byte x.name && ltb 0
-    (length x.name)) mnemonics m rows_named c)).1)
+-- letters, digits and full stops, and one of them at least
+pub name_facts : (m : Mnemonic) (aq rl : Bool) → Contains mnemonics m →
+    (list_all is_name_byte (name_text m aq rl) ≡ true) × (0 < length (name_text m aq rl))
+name_facts m aq rl c =
+    let h = and_parts (list_all is_name_byte m.name) (ltb 0 (length m.name)) (row_passes (λ x. list_all
+    is_name_byte x.name && ltb 0 (length x.name)) mnemonics m rows_named c) in
+    by (is_ordered m.syntax) h.0 (ltb-true 0 (length m.name) h.1)
+  where
+    by : (b : Bool) → list_all is_name_byte m.name ≡ true → 0 < length m.name → (list_all is_name_byte (cond b (m.name
+        ++ full_stop ∷ order_text aq rl) m.name) ≡ true) × (0 < length (cond b (m.name
+        ++ full_stop ∷ order_text aq rl) m.name))
+    by true all some = (
+      list_all-append is_name_byte m.name (full_stop ∷ order_text aq rl) ∙ rw (all, order_bytes aq rl) refl,
+      omega (arith, length-append m.name (full_stop ∷ order_text aq rl)),
+    )
+    by false all some = (all, some)

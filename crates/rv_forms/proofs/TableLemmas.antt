@@ -10,12 +10,14 @@ use Rattle.std.specs.Str.{bytes_eq}
 use Rattle.std.proofs.lemmas.Bool.{and_parts, cases_lt, eqb-true}
 use Rattle.std.proofs.lemmas.Cmp.{nat_list_cmp_total}
 use Rattle.std.proofs.lemmas.List.Sorted.{searchable_from_sorted}
+use Rattle.std.proofs.Math.ListN.{get_or-map}
+use Rattle.std.proofs.lemmas.List.{length-map}
 use Rattle.std.proofs.lemmas.Map.Text.{is_eq-slice_cmp}
 use Rattle.std.proofs.lemmas.Nat.{and_le_r}
 use Rattle.std.proofs.lemmas.Slice.Eq.{bytes_eq-Decides}
 use Rattle.rv_forms.specs.declared.kinds.Syntax.{Syntax}
 use Rattle.rv_forms.specs.Forms.{mask_of}
-use Rattle.rv_forms.specs.Mnemonics.{Mnemonic, row, are_rising, is_table, fits}
+use Rattle.rv_forms.specs.Mnemonics.{Mnemonic, row, are_rising, is_table}
 
 -- a row as the code keeps it
 abbrev pub Row : Type 0
@@ -29,15 +31,6 @@ pub all_at : {X : Type 0} (p : X → Bool) (xs : List X) (k : ℕ) (d : X) → l
 all_at p [] k d all inside = absurd (omega arith)
 all_at p (x ∷ xs) zero d all inside = (and_parts (p x) (list_all p xs) all).0
 all_at p (x ∷ xs) (suc k) d all inside = all_at p xs k d (and_parts (p x) (list_all p xs) all).1 (omega arith)
-
-mapped_at : (rs : List Row) (k : ℕ) (d : Row) → k < length rs → get_or (map view rs) k (view d) ≡ view (get_or rs k d)
-mapped_at [] k d inside = absurd (omega arith)
-mapped_at (r ∷ rs) zero d inside = refl
-mapped_at (r ∷ rs) (suc k) d inside = mapped_at rs k d (omega arith)
-
-mapped_length : (rs : List Row) → length (map view rs) ≡ length rs
-mapped_length [] = refl
-mapped_length (r ∷ rs) = ap suc (mapped_length rs)
 
 less : (o : Ordering) → is_lt o ≡ true → o ≡ Less
 less Less e = refl
@@ -62,20 +55,28 @@ sorted : (rs : List Row) → are_rising (map view rs) ≡ true →
 sorted rs rising = λ k d low inside.
     let names : Mnemonic → Mnemonic → Type 0 = λ x y. slice_cmp nat_cmp x.name y.name ≡ Less in
     let e : names (view (get_or rs k d)) (view (get_or rs (k + 1) d)) = rw (
-      ← mapped_at rs k d (omega arith),
-      ← mapped_at rs (k + 1) d (omega arith),
+      ← get_or-map view rs k d,
+      ← get_or-map view rs (k + 1) d,
     ) (later_is_less (map view rs) k (k + 1) (view d) rising
-    (omega arith) (omega (arith, mapped_length rs))) in
+    (omega arith) (omega (arith, length-map rs view))) in
     ap is_lt (nat_list_cmp_total.antisymm (get_or rs (k + 1) d).0.now (get_or rs k d).0.now ∙ ap ordering_reverse e)
 
 other_name : (a b : List ℕ) (o : Ordering) → slice_cmp nat_cmp a b ≡ o → is_eq o ≡ false → bytes_eq a b ≡ false
 other_name a b o e differs = sym (is_eq-slice_cmp a b) ∙ (ap is_eq e ∙ differs)
 
-none_named : (rs : List Row) (name : List ℕ) → ((k : ℕ) (d : Row) → k < length rs →
-    bytes_eq (get_or rs k d).0.now name ≡ false) → find (λ m. bytes_eq m.name name) (map view rs) ≡ None
-none_named [] name none = refl
-none_named (r ∷ rs) name none = rw (none 0 r (omega arith)) (none_named rs name (λ k d inside. none (suc k) d
-    (omega arith)))
+-- the first that passes, and that none does
+pub find_first : (p : Mnemonic → Bool) (rs : List Row) (i : ℕ) (d : Row) → ((k : ℕ) (e : Row) → k < i →
+    p (view (get_or rs k e)) ≡ false) → i < length rs → p (view (get_or rs i d)) ≡ true →
+    find p (map view rs) ≡ Some (view (get_or rs i d))
+find_first p [] i d none inside here = absurd (omega arith)
+find_first p (r ∷ rs) zero d none inside here = rw here refl
+find_first p (r ∷ rs) (suc i) d none inside here = rw (none 0 d (omega arith)) (find_first p rs i d (λ k e below. none
+    (suc k) e (omega arith)) (omega arith) here)
+
+pub find_none : (p : Mnemonic → Bool) (rs : List Row) → ((k : ℕ) (e : Row) → k < length rs →
+    p (view (get_or rs k e)) ≡ false) → find p (map view rs) ≡ None
+find_none p [] none = refl
+find_none p (r ∷ rs) none = rw (none 0 r (omega arith)) (find_none p rs (λ k e below. none (suc k) e (omega arith)))
 
 pub found_at : (ms : List Mnemonic) (name : List ℕ) (i : ℕ) (d : Mnemonic) → are_rising ms ≡ true → i < length ms →
     bytes_eq (get_or ms i d).name name ≡ true → find (λ m. bytes_eq m.name name) ms ≡ Some (get_or ms i d)
@@ -96,18 +97,18 @@ pub searched : (rs : List Row) (name : List ℕ) (r : Result ℕ ℕ) → are_ri
     → MatchResult r (λ i. (d : Row) → find (λ m. bytes_eq m.name name) (map view rs)
     ≡ Some (view (get_or rs i d))) (λ _. find (λ m. bytes_eq m.name name) (map view rs) ≡ None)
 searched rs name (Ok i) rising inside here = λ d.
-    let at : get_or (map view rs) i (view d) ≡ view (get_or rs i d) = mapped_at rs i d inside in
+    let at : get_or (map view rs) i (view d) ≡ view (get_or rs i d) = get_or-map view rs i d in
     let same : bytes_eq (get_or (map view rs) i (view d)).name name
     ≡ true = ap (λ (m : Mnemonic). bytes_eq m.name name) at
     ∙ (sym (is_eq-slice_cmp (get_or rs i d).0.now name) ∙ ap is_eq (here d)) in
-    found_at (map view rs) name i (view d) rising (omega (arith, mapped_length rs)) same
+    found_at (map view rs) name i (view d) rising (omega (arith, length-map rs view)) same
     ∙ ap (λ (m : Mnemonic). Some m) at
 searched rs name (Err i) rising inside split =
     let parts : IsPartitionPoint (λ (y : Row). slice_cmp nat_cmp y.0.now name
     ≡ Less) (λ (y : Row). slice_cmp nat_cmp y.0.now name
     ≡ Greater) rs i = split (searchable_from_sorted nat_list_cmp_total (λ (y : Row). y.0.now) rs name
     (sorted rs rising)) in
-    none_named rs name (λ k d below. elim (cases_lt k i) [
+    find_none (λ m. bytes_eq m.name name) rs (λ k d below. elim (cases_lt k i) [
       | inl front ↦ other_name (get_or rs k d).0.now name Less (parts.0 k d (omega arith) front) refl
       | inr back ↦ other_name (get_or rs k d).0.now name Greater (parts.1 k d back below) refl
     ])
@@ -118,8 +119,8 @@ pub row_fixed : (rs : List Row) (k : ℕ) (d : Row) → IsTrue (is_table (map vi
 row_fixed rs k d table inside =
     let p : Mnemonic → Bool = λ m. bit_and m.value (mask_of m.syntax) == m.value in
     let all = (and_parts (are_rising (map view rs)) (list_all p (map view rs)) table).1 in
-    let here : p (view (get_or rs k d)) ≡ true = ap p (sym (mapped_at rs k d inside))
-    ∙ all_at p (map view rs) k (view d) all (omega (arith, mapped_length rs)) in
+    let here : p (view (get_or rs k d)) ≡ true = ap p (sym (get_or-map view rs k d))
+    ∙ all_at p (map view rs) k (view d) all (omega (arith, length-map rs view)) in
     omega (
       arith,
       eqb-true (bit_and (get_or rs k d).2 (mask_of (get_or rs k d).1)) (get_or rs k d).2 here,
@@ -129,17 +130,3 @@ row_fixed rs k d table inside =
 pub table_rises : (rs : List Row) → IsTrue (is_table (map view rs)) → are_rising (map view rs) ≡ true
 table_rises rs table = (and_parts (are_rising (map view rs)) (list_all (λ m. bit_and m.value
     (mask_of m.syntax) == m.value) (map view rs)) table).0
-
--- the first row that fits, one row at a time
-pub fits_at : (rs : List Row) (w i : ℕ) (d : Row) → ((k : ℕ) (e : Row) → k < i →
-    fits (view (get_or rs k e)) w ≡ false) → i < length rs → fits (view (get_or rs i d)) w ≡ true →
-    find (λ m. fits m w) (map view rs) ≡ Some (view (get_or rs i d))
-fits_at [] w i d none inside here = absurd (omega arith)
-fits_at (r ∷ rs) w zero d none inside here = rw here refl
-fits_at (r ∷ rs) w (suc i) d none inside here = rw (none 0 d (omega arith)) (fits_at rs w i d (λ k e below. none
-    (suc k) e (omega arith)) (omega arith) here)
-
-pub none_fits : (rs : List Row) (w : ℕ) → ((k : ℕ) (e : Row) → k < length rs →
-    fits (view (get_or rs k e)) w ≡ false) → find (λ m. fits m w) (map view rs) ≡ None
-none_fits [] w none = refl
-none_fits (r ∷ rs) w none = rw (none 0 r (omega arith)) (none_fits rs w (λ k e below. none (suc k) e (omega arith)))
