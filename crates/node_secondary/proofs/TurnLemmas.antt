@@ -1,16 +1,16 @@
 -- What a guest sends, frame by frame.
-use Rattle.std.proofs.Common.{◌≡◌, ℕ, ◌+◌, ◌-◌, ◌%◌, Bool, List, [], ◌∷◌, ◌++◌, Option, Some, None, length, get_or, take, slice_get, refl, sym, ap, ◌∙◌, arith}
+use Rattle.std.proofs.Common.{◌≡◌, ℕ, ◌+◌, ◌-◌, ◌%◌, Bool, List, [], ◌∷◌, ◌++◌, Option, Some, None, length, take, slice_get, refl, sym, ap, ◌∙◌, arith}
 use Rattle.std.specs.Prelude.{IsSome, fold}
 use Rattle.std.specs.Option.{option_map}
-use Rattle.std.proofs.lemmas.List.{flat_map_more, take_more}
+use Rattle.std.proofs.lemmas.List.{flat_map_more}
 use Rattle.std.proofs.lemmas.List.Sums.{fold_push}
 use Rattle.std.proofs.lemmas.Nat.{mod_below}
-use Rattle.std.proofs.lemmas.Option.{slice_get-get_or, slice_get_within}
 use Rattle.inet_frame.specs.Counted.{counted, from_guest, tcp_in}
 use Rattle.inet_frame.specs.Fields.{TcpFields}
 use Rattle.inet_frame.proofs.FieldLemmas.{length_fits}
 use Rattle.tcp_track.specs.Tracking.{Tracking, taken}
 use Rattle.frame_mirror.specs.declared.ring.Waiting.{Waiting}
+use Rattle.state_wire.proofs.BeginLemmas.{take_one}
 use Rattle.state_wire.specs.Guest.{IsFrame, Meaning, after_turn, sent_in, turn_of}
 use Rattle.colo_wire.specs.Spelling.{HasSpelling}
 use Rattle.colo_wire.specs.declared.messages.Message.TheVariants.{Sent}
@@ -40,15 +40,6 @@ spelled_by frame (Some t) e some =
 
 pub sent_spelled : (frame : List ℕ) → IsSome (counted frame) → HasSpelling (Sent frame)
 sent_spelled frame some = spelled_by frame (tcp_in frame) refl some
-
-some_is : (x y : List ℕ) → (let o : Option (List ℕ) = Some x in o) ≡ Some y → x ≡ y
-some_is x y e = cc
-
-take_one : (xs : List (List ℕ)) (k : ℕ) (x : List ℕ) → slice_get xs k ≡ Some x → take (k + 1) xs ≡ take k xs ++ x ∷ []
-take_one xs k x e =
-    let within = slice_get_within xs k x e in
-    let same : get_or xs k x ≡ x = some_is (get_or xs k x) x (sym (slice_get-get_or xs k x within) ∙ e) in
-    take_more xs k x within ∙ ap (λ (y : List ℕ). take k xs ++ y ∷ []) same
 
 -- one frame more
 pub lines_more : (lines : Tracking) (frames : List (List ℕ)) (k : ℕ) (frame : List ℕ) →

@@ -8,7 +8,7 @@ use Rattle.inet_frame.specs.Fields.{TcpFields}
 use Rattle.inet_frame.specs.declared.tuple.Tuple.{Tuple}
 use Rattle.frame_mirror.specs.Laws.{IsKept}
 use Rattle.seq_rewriter.specs.Given.{opening_for}
-use Rattle.splice_run.proofs.ListLemmas.{take_one}
+use Rattle.state_wire.proofs.BeginLemmas.{take_one}
 use Rattle.tcp_track.specs.Stands.{opening_after, opening_of, segments}
 use Rattle.tcp_track.specs.declared.openings.Opening.{Opening}
 use Rattle.splice_run.specs.Openings.{KnowsOpenings, opening_at, opening_with}

@@ -1,2 +1,2 @@
-mod BeginLemmas
+pub mod BeginLemmas
 mod LoadLemmas
