@@ -14,3 +14,6 @@ mod telling;
 mod under_way;
 
 pub use node::Secondary;
+
+#[cfg(test)]
+mod tests;

@@ -9,3 +9,6 @@ mod tables;
 
 pub use compare::Compare;
 pub use settle_table::Need;
+
+#[cfg(test)]
+mod tests;
