@@ -14,6 +14,7 @@ use std::alloc::Global;
 use std::process::Abort;
 use std::str::SplitWhitespace;
 use std::test::Fail;
+use worked_frames::ACK_5004;
 
 /// The connection of 10.0.2.2, port 40000, to port 7.
 const TUPLE: Tuple = Tuple {
@@ -21,14 +22,6 @@ const TUPLE: Tuple = Tuple {
     port: 40000,
     guest: 7,
 };
-
-/// A segment to the guest.
-const SEGMENT: [u8; 54] = [
-    0x52, 0x54, 0x00, 0x12, 0x34, 0x56, 0x52, 0x54, 0x00, 0xAA, 0x00, 0x01, 0x08, 0x00, 0x45, 0x00,
-    0x00, 0x28, 0x00, 0x00, 0x40, 0x00, 0x40, 0x06, 0x22, 0xC0, 0x0A, 0x00, 0x02, 0x02, 0x0A, 0x00,
-    0x02, 0x0F, 0x9C, 0x40, 0x00, 0x07, 0x00, 0x00, 0x03, 0xE9, 0x00, 0x00, 0x13, 0x8C, 0x50, 0x10,
-    0x10, 0x00, 0xD4, 0x07, 0x00, 0x00,
-];
 
 /// So many zeros.
 fn zeros(alloc: Global, count: u32) -> Result<Contents, Fail> {
@@ -68,7 +61,7 @@ fn held(alloc: Global) -> Result<Message, Fail> {
         index: 5,
         seen: None,
         trim: 0,
-        frame: Contents::from_vec(SEGMENT.to_vec(alloc)?),
+        frame: Contents::from_vec(ACK_5004.to_vec(alloc)?),
     })
 }
 

@@ -1,44 +1,15 @@
+//! What goes out between two offsets, of a guest that sent ten digits and FIN.
+
 ghost use Rattle.std.specs.Prelude.{◌≡◌};
 
 use super::*;
 use colo_base::{Frames, NoMemory};
 use inet_frame::Tuple;
 use std::alloc::Global;
+use std::process::Abort;
 use std::test::Fail;
-use tcp_track::{Line, Tracker};
-
-/// SYN and ACK with number 5000 and MSS 1460, which opens the client's number 1000. It has the
-/// IPv4 checksum 0x22BC and the TCP checksum 0xBC4D.
-const SYN: &[u8] = &[
-    0x52, 0x54, 0x00, 0xAA, 0x00, 0x01, 0x52, 0x54, 0x00, 0x12, 0x34, 0x56, 0x08, 0x00, 0x45, 0x00,
-    0x00, 0x2C, 0x00, 0x00, 0x40, 0x00, 0x40, 0x06, 0x22, 0xBC, 0x0A, 0x00, 0x02, 0x0F, 0x0A, 0x00,
-    0x02, 0x02, 0x00, 0x07, 0x9C, 0x40, 0x00, 0x00, 0x13, 0x88, 0x00, 0x00, 0x03, 0xE9, 0x60, 0x12,
-    0x10, 0x00, 0xBC, 0x4D, 0x00, 0x00, 0x02, 0x04, 0x05, 0xB4,
-];
-
-/// The same with number 9000.
-const OTHER_SYN: &[u8] = &[
-    0x52, 0x54, 0x00, 0xAA, 0x00, 0x01, 0x52, 0x54, 0x00, 0x12, 0x34, 0x56, 0x08, 0x00, 0x45, 0x00,
-    0x00, 0x2C, 0x00, 0x00, 0x40, 0x00, 0x40, 0x06, 0x22, 0xBC, 0x0A, 0x00, 0x02, 0x0F, 0x0A, 0x00,
-    0x02, 0x02, 0x00, 0x07, 0x9C, 0x40, 0x00, 0x00, 0x23, 0x28, 0x00, 0x00, 0x03, 0xE9, 0x60, 0x12,
-    0x10, 0x00, 0xAC, 0xAD, 0x00, 0x00, 0x02, 0x04, 0x05, 0xB4,
-];
-
-/// `0123456789` at 5001.
-const DIGITS: &[u8] = &[
-    0x52, 0x54, 0x00, 0xAA, 0x00, 0x01, 0x52, 0x54, 0x00, 0x12, 0x34, 0x56, 0x08, 0x00, 0x45, 0x00,
-    0x00, 0x32, 0x00, 0x00, 0x40, 0x00, 0x40, 0x06, 0x22, 0xB6, 0x0A, 0x00, 0x02, 0x0F, 0x0A, 0x00,
-    0x02, 0x02, 0x00, 0x07, 0x9C, 0x40, 0x00, 0x00, 0x13, 0x89, 0x00, 0x00, 0x03, 0xE9, 0x50, 0x18,
-    0x10, 0x00, 0xCE, 0xEE, 0x00, 0x00, 0x30, 0x31, 0x32, 0x33, 0x34, 0x35, 0x36, 0x37, 0x38, 0x39,
-];
-
-/// FIN alone at 5011.
-const END: &[u8] = &[
-    0x52, 0x54, 0x00, 0xAA, 0x00, 0x01, 0x52, 0x54, 0x00, 0x12, 0x34, 0x56, 0x08, 0x00, 0x45, 0x00,
-    0x00, 0x28, 0x00, 0x00, 0x40, 0x00, 0x40, 0x06, 0x22, 0xC0, 0x0A, 0x00, 0x02, 0x0F, 0x0A, 0x00,
-    0x02, 0x02, 0x00, 0x07, 0x9C, 0x40, 0x00, 0x00, 0x13, 0x93, 0x00, 0x00, 0x03, 0xE9, 0x50, 0x11,
-    0x10, 0x00, 0xD3, 0xFF, 0x00, 0x00,
-];
+use tcp_track::{Line, Offset, Tracker};
+use worked_frames::{DIGITS, END, OTHER_SYN, SYN};
 
 /// `345` at 5004.
 const THREE: &[u8] = &[
@@ -63,59 +34,62 @@ const TUPLE: Tuple = Tuple {
 };
 
 /// What a guest sent.
-fn taken(alloc: Global, frames: &[&[u8]]) -> Result<Tracker, NoMemory> {
+fn taken(alloc: Global, syn: &[u8]) -> Result<Tracker, NoMemory> {
     let mut tracker = Tracker::new(alloc);
-    for frame in frames {
-        let _ = tracker.take(frame)?;
-    }
+    tracker.take(syn)?;
+    tracker.take(&DIGITS)?;
+    tracker.take(&END)?;
     Ok(tracker)
 }
 
 /// The two nodes' lines, under the number 5000.
-fn both_of<'a>(mine: &'a Line, theirs: Option<&'a Line>) -> Both<'a>
+fn both_of<'a>(mine: &'a Line, theirs: &'a Line) -> Both<'a>
     ensures { result.mine.now ≡ mine.now }
 {
     Both {
         tuple: TUPLE,
         mine,
-        theirs,
+        theirs: Some(theirs),
         number: 5000,
         number_known: true,
     }
 }
 
-#[test]
-fn a_syn_goes_out_under_the_kept_number(rt: HostRuntime) -> Result<(), Fail> {
-    let mine = taken(rt.alloc(), &[SYN])?;
-    let theirs = taken(rt.alloc(), &[OTHER_SYN])?;
-    let Some(line) = mine.line(&TUPLE) else {
-        return Err(Fail::from("no line"));
-    };
-    assert_eq!(rt; line.base, 0);
-    let both = both_of(line, theirs.line(&TUPLE));
-    let mut out = Frames::new(rt.alloc());
-    both.release_symbols(rt.alloc(), 0, 1, &mut out)?;
+/// The one frame that goes out between two offsets.
+fn released(alloc: Global, mine: &Tracker, from: Offset, to: Offset) -> Result<Frames, Fail> {
+    let theirs = taken(alloc, &OTHER_SYN)?;
+    let line = mine.line(&TUPLE).ok_or("no line")?;
+    if line.base > from {
+        return Err("trimmed".into());
+    }
+    let both = both_of(line, theirs.line(&TUPLE).ok_or("no line")?);
+    let mut out = Frames::new(alloc);
+    both.release_symbols(alloc, from, to, &mut out)?;
+    Ok(out)
+}
+
+/// Asserts that one frame goes out between two offsets.
+fn goes_out(
+    rt: &(impl Abort + AllocGlobal),
+    from: Offset,
+    to: Offset,
+    frame: &[u8],
+) -> Result<(), Fail> {
+    let mine = taken(rt.alloc(), &SYN)?;
+    let out = released(rt.alloc(), &mine, from, to)?;
     assert_eq!(rt; out.len(), 1);
-    assert_eq!(rt; out.get(0), Some(SYN));
+    assert_eq!(rt; out.get(0), Some(frame));
     Ok(())
 }
 
 #[test]
+fn a_syn_goes_out_under_the_kept_number(rt: HostRuntime) -> Result<(), Fail> {
+    goes_out(&rt, 0, 1, &SYN)
+}
+
+#[test]
 fn bytes_go_out_from_an_offset_on(rt: HostRuntime) -> Result<(), Fail> {
-    let mine = taken(rt.alloc(), &[SYN, DIGITS, END])?;
-    let Some(line) = mine.line(&TUPLE) else {
-        return Err(Fail::from("no line"));
-    };
-    assert_eq!(rt; line.base, 0);
-    let both = both_of(line, Some(line));
-    let mut out = Frames::new(rt.alloc());
-    both.release_symbols(rt.alloc(), 4, 7, &mut out)?;
-    both.release_symbols(rt.alloc(), 9, 12, &mut out)?;
-    both.release_symbols(rt.alloc(), 11, 12, &mut out)?;
-    assert_eq!(rt; out.len(), 3);
-    assert_eq!(rt;
-        (out.get(0), out.get(1), out.get(2)),
-        (Some(THREE), Some(LAST), Some(END))
-    );
-    Ok(())
+    goes_out(&rt, 4, 7, THREE)?;
+    goes_out(&rt, 9, 12, LAST)?;
+    goes_out(&rt, 11, 12, &END)
 }
