@@ -1,14 +1,12 @@
 //! A machine whose program drives both devices, and what is no image.
 
-ghost use Rattle.std.specs.Prelude.{◌∷◌, []};
-
 use crate::{BootFault, Machine};
 use colo_base::{Frames, NoMemory};
+use disk_buffers::WholeDisk;
 use elf_load::ElfFault;
 use state_wire::Guest;
 use std::alloc::Global;
 use std::test::Fail;
-use virtio_blk::Disk;
 
 /// The program as another assembler gives its words, after the headers of an image. It starts both
 /// devices, and asks for the disk's sector. Once that and a frame are there, it sends the frame's
@@ -148,32 +146,6 @@ const FRAME: [u8; 60] = [
     30, 31, 32, 33, 34, 35, 36, 37, 38, 39, 40, 41, 42, 43, 44, 45, 46,
 ];
 
-/// A disk of one sector.
-#[derive(Drop)]
-struct OneSector {
-    bytes: [u8; 512],
-}
-
-impl Disk for OneSector {
-    ghost state = { λ d. record { mine = d.bytes ∷ [] } };
-
-    fn sectors(&self) -> u32 {
-        1
-    }
-
-    fn sector(&self, _k: u32) -> &[u8] {
-        &self.bytes
-    }
-
-    fn read_sector(&self, _k: u32, into: &mut [u8; 512]) {
-        *into = self.bytes;
-    }
-
-    fn write_sector(&mut self, _k: u32, from: &[u8; 512]) {
-        self.bytes = *from;
-    }
-}
-
 /// The bytes of the image.
 fn image(alloc: Global) -> Result<Vec<u8>, Fail> {
     let mut bytes = Vec::new(alloc);
@@ -184,9 +156,9 @@ fn image(alloc: Global) -> Result<Vec<u8>, Fail> {
 }
 
 /// The machine at its start, with a disk full of this byte.
-fn boot(alloc: Global, byte: u8) -> Result<Machine<OneSector>, Fail> {
+fn boot(alloc: Global, byte: u8) -> Result<Machine<WholeDisk>, Fail> {
     let image = image(alloc)?;
-    let disk = OneSector { bytes: [byte; 512] };
+    let disk = WholeDisk::new(alloc, &[byte; 512]).ok().ok_or("disk")?;
     let machine = Machine::boot(alloc, &image, disk, 1).ok().ok_or("boot")?;
     Ok(machine)
 }
@@ -194,8 +166,8 @@ fn boot(alloc: Global, byte: u8) -> Result<Machine<OneSector>, Fail> {
 /// Loads the state of one machine, part by part, into another.
 fn copy_state(
     alloc: Global,
-    from: &Machine<OneSector>,
-    to: &mut Machine<OneSector>,
+    from: &Machine<WholeDisk>,
+    to: &mut Machine<WholeDisk>,
 ) -> Result<(), NoMemory> {
     let mut state = Vec::new(alloc);
     from.state(&mut state)?;
@@ -216,7 +188,7 @@ fn copy_state(
 }
 
 /// The driver's start, and a turn that receives the frame and serves a request.
-fn start(machine: &mut Machine<OneSector>, out: &mut Frames) -> Result<(), NoMemory> {
+fn start(machine: &mut Machine<WholeDisk>, out: &mut Frames) -> Result<(), NoMemory> {
     machine.turn(10, None, 0, 200, out)?;
     if machine.can_receive() {
         machine.turn(5, Some(&FRAME), 1, 60, out)?;
@@ -238,7 +210,7 @@ fn sent_back(out: &Frames) -> bool {
 }
 
 /// Whether the frame stands in the sector, with zeros after it.
-fn wrote_frame(machine: &Machine<OneSector>) -> bool {
+fn wrote_frame(machine: &Machine<WholeDisk>) -> bool {
     match machine.sector(0) {
         Some(sector) => sector.starts_with(&FRAME) && sector.ends_with(&[0; 452]),
         None => false,
@@ -246,7 +218,7 @@ fn wrote_frame(machine: &Machine<OneSector>) -> bool {
 }
 
 /// Whether the card's Status had DEVICE_NEEDS_RESET, and its InterruptStatus bit 1.
-fn broke_ring(machine: &Machine<OneSector>) -> bool {
+fn broke_ring(machine: &Machine<WholeDisk>) -> bool {
     match machine.ram().part(0x8000_1400, 8) {
         Some(found) => found.starts_with(&[79, 0, 0, 0, 2, 0, 0, 0]),
         None => false,
@@ -254,7 +226,7 @@ fn broke_ring(machine: &Machine<OneSector>) -> bool {
 }
 
 /// The time and the count of steps in a machine's state.
-fn times(alloc: Global, machine: &Machine<OneSector>) -> Result<Vec<u8>, Fail> {
+fn times(alloc: Global, machine: &Machine<WholeDisk>) -> Result<Vec<u8>, Fail> {
     let mut state = Vec::new(alloc);
     machine.state(&mut state)?;
     let mut times = Vec::new(alloc);
@@ -292,7 +264,7 @@ fn a_copy_runs_alike(rt: HostRuntime) -> Result<(), Fail> {
 #[test]
 fn what_is_no_image(rt: HostRuntime) -> Result<(), Fail> {
     let bytes = image(rt.alloc())?;
-    let disk = OneSector { bytes: [0; 512] };
+    let disk = WholeDisk::new(rt.alloc(), &[0; 512]).ok().ok_or("disk")?;
     let fault = Machine::boot(
         rt.alloc(),
         bytes.as_slice().get(..83).ok_or("short")?,
