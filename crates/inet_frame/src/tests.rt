@@ -3,17 +3,7 @@
 use super::*;
 use std::alloc::{AllocError, Global};
 use std::test::Fail;
-
-/// From the client 10.0.2.2 port 40000 to the guest's port 7: SYN, PSH and ACK, options of 20
-/// bytes, the payload `hello` and three bytes of padding.
-const TCP: [u8; 82] = [
-    0x52, 0x54, 0x00, 0x12, 0x34, 0x56, 0x52, 0x54, 0x00, 0xAA, 0x00, 0x01, 0x08, 0x00, 0x45, 0x00,
-    0x00, 0x41, 0x12, 0x34, 0x40, 0x00, 0x40, 0x06, 0x10, 0x73, 0x0A, 0x00, 0x02, 0x02, 0x0A, 0x00,
-    0x02, 0x0F, 0x9C, 0x40, 0x00, 0x07, 0x00, 0x00, 0x03, 0xE8, 0xDE, 0xAD, 0xBE, 0xEF, 0xA0, 0x1A,
-    0x10, 0x00, 0x9E, 0x32, 0x00, 0x00, 0x02, 0x04, 0x05, 0xB4, 0x04, 0x02, 0x08, 0x0A, 0x00, 0x00,
-    0x00, 0x01, 0x00, 0x00, 0x00, 0x00, 0x01, 0x03, 0x03, 0x07, 0x68, 0x65, 0x6C, 0x6C, 0x6F, 0xEE,
-    0xEE, 0xEE,
-];
+use worked_frames::{ARP, ARP_REPLY, OPTIONS_SYN, SUMMED_UDP};
 
 /// From port 68 to port 67: `abc` after an IPv4 header with four bytes of options, no checksum,
 /// and padding.
@@ -22,27 +12,6 @@ const UDP: [u8; 60] = [
     0x00, 0x23, 0x00, 0x00, 0x40, 0x00, 0x40, 0x11, 0x1F, 0xB9, 0x0A, 0x00, 0x02, 0x02, 0x0A, 0x00,
     0x02, 0x0F, 0x01, 0x01, 0x01, 0x00, 0x00, 0x44, 0x00, 0x43, 0x00, 0x0B, 0x00, 0x00, 0x61, 0x62,
     0x63, 0xEE, 0xEE, 0xEE, 0xEE, 0xEE, 0xEE, 0xEE, 0xEE, 0xEE, 0xEE, 0xEE,
-];
-
-/// From port 68 to port 67: `abc` with its checksum 0x22DE.
-const SUMMED_UDP: [u8; 45] = [
-    0x52, 0x54, 0x00, 0x12, 0x34, 0x56, 0x52, 0x54, 0x00, 0xAA, 0x00, 0x01, 0x08, 0x00, 0x45, 0x00,
-    0x00, 0x1F, 0x00, 0x00, 0x40, 0x00, 0x40, 0x11, 0x22, 0xBE, 0x0A, 0x00, 0x02, 0x02, 0x0A, 0x00,
-    0x02, 0x0F, 0x00, 0x44, 0x00, 0x43, 0x00, 0x0B, 0x22, 0xDE, 0x61, 0x62, 0x63,
-];
-
-/// The client 10.0.2.2 asks who has 10.0.2.15.
-const ARP: [u8; 42] = [
-    0xFF, 0xFF, 0xFF, 0xFF, 0xFF, 0xFF, 0x52, 0x54, 0x00, 0xAA, 0x00, 0x01, 0x08, 0x06, 0x00, 0x01,
-    0x08, 0x00, 0x06, 0x04, 0x00, 0x01, 0x52, 0x54, 0x00, 0xAA, 0x00, 0x01, 0x0A, 0x00, 0x02, 0x02,
-    0x00, 0x00, 0x00, 0x00, 0x00, 0x00, 0x0A, 0x00, 0x02, 0x0F,
-];
-
-/// The reply that the guest's MAC address gives to it.
-const ARP_REPLY: [u8; 42] = [
-    0x52, 0x54, 0x00, 0xAA, 0x00, 0x01, 0x52, 0x54, 0x00, 0x12, 0x34, 0x56, 0x08, 0x06, 0x00, 0x01,
-    0x08, 0x00, 0x06, 0x04, 0x00, 0x02, 0x52, 0x54, 0x00, 0x12, 0x34, 0x56, 0x0A, 0x00, 0x02, 0x0F,
-    0x52, 0x54, 0x00, 0xAA, 0x00, 0x01, 0x0A, 0x00, 0x02, 0x02,
 ];
 
 /// The number of a dropped frame, 0 for any other, after up to two bytes were changed.
@@ -64,20 +33,20 @@ fn dropped_frames_have_the_first_number(rt: HostRuntime) -> Result<(), Fail> {
     let none = (usize::MAX, 0);
     let long = [0; 1515];
     for (frame, changes, number) in [
-        (TCP.as_slice(), [none, none], 0),
+        (OPTIONS_SYN.as_slice(), [none, none], 0),
         (UDP.as_slice(), [none, none], 0),
         (SUMMED_UDP.as_slice(), [none, none], 0),
         (ARP.as_slice(), [none, none], 0),
-        (&TCP[..13], [none, none], 1),
+        (&OPTIONS_SYN[..13], [none, none], 1),
         (long.as_slice(), [none, none], 2),
-        (TCP.as_slice(), [(12, 0x86), none], 3),
+        (OPTIONS_SYN.as_slice(), [(12, 0x86), none], 3),
         (ARP.as_slice(), [(21, 2), none], 4),
-        (TCP.as_slice(), [(14, 0x65), none], 5),
-        (TCP.as_slice(), [(25, 0x74), none], 6),
-        (TCP.as_slice(), [(20, 0x20), (24, 0x30)], 7),
-        (TCP.as_slice(), [(23, 1), (25, 0x78)], 8),
-        (TCP.as_slice(), [(46, 0x40), none], 9),
-        (TCP.as_slice(), [(74, b'H'), none], 10),
+        (OPTIONS_SYN.as_slice(), [(14, 0x65), none], 5),
+        (OPTIONS_SYN.as_slice(), [(25, 0x74), none], 6),
+        (OPTIONS_SYN.as_slice(), [(20, 0x20), (24, 0x30)], 7),
+        (OPTIONS_SYN.as_slice(), [(23, 1), (25, 0x78)], 8),
+        (OPTIONS_SYN.as_slice(), [(46, 0x40), none], 9),
+        (OPTIONS_SYN.as_slice(), [(74, b'H'), none], 10),
         (SUMMED_UDP.as_slice(), [(39, 0x0C), none], 11),
         (SUMMED_UDP.as_slice(), [(40, 0x23), none], 12),
     ] {
@@ -88,9 +57,9 @@ fn dropped_frames_have_the_first_number(rt: HostRuntime) -> Result<(), Fail> {
 
 #[test]
 fn views_hand_out_the_parts(rt: HostRuntime) {
-    if let Seen::Tcp(view) = parse(&TCP) {
-        assert_eq!(rt; view.dst_mac(), &TCP[..6]);
-        assert_eq!(rt; view.src_mac(), &TCP[6..12]);
+    if let Seen::Tcp(view) = parse(&OPTIONS_SYN) {
+        assert_eq!(rt; view.dst_mac(), &OPTIONS_SYN[..6]);
+        assert_eq!(rt; view.src_mac(), &OPTIONS_SYN[6..12]);
         assert_eq!(rt; (view.src(), view.dst()), (0x0A00_0202, 0x0A00_020F));
         assert_eq!(rt; (view.sport(), view.dport()), (40000, 7));
         assert_eq!(rt; (view.seq(), view.ack()), (1000, 0xDEAD_BEEF));
@@ -101,7 +70,7 @@ fn views_hand_out_the_parts(rt: HostRuntime) {
         );
         assert_eq!(rt; (view.has_fin(), view.has_rst()), (false, false));
         assert_eq!(rt; mss(view.options()), 1460);
-        assert_eq!(rt; view.options(), &TCP[54..74]);
+        assert_eq!(rt; view.options(), &OPTIONS_SYN[54..74]);
         assert_eq!(rt; view.payload(), b"hello".as_slice());
     } else {
         assert!(rt; false);
@@ -160,9 +129,9 @@ fn an_option_takes_its_stated_length(rt: HostRuntime) {
 /// sums stay, since only words change places.
 #[test]
 fn a_frame_of_the_guest_counts(rt: HostRuntime) {
-    assert!(rt; is_tcp(&TCP));
-    assert!(rt; counted(&TCP).is_none());
-    let mut frame = TCP;
+    assert!(rt; is_tcp(&OPTIONS_SYN));
+    assert!(rt; counted(&OPTIONS_SYN).is_none());
+    let mut frame = OPTIONS_SYN;
     frame[26..34].copy_from_slice(&[0x0A, 0x00, 0x02, 0x0F, 0x0A, 0x00, 0x02, 0x02]);
     frame[34..38].copy_from_slice(&[0x00, 0x07, 0x9C, 0x40]);
     let wanted = Tuple {
@@ -175,7 +144,7 @@ fn a_frame_of_the_guest_counts(rt: HostRuntime) {
     } else {
         assert!(rt; false);
     }
-    if let Seen::Tcp(view) = parse(&TCP) {
+    if let Seen::Tcp(view) = parse(&OPTIONS_SYN) {
         assert_eq!(rt; view.client_tuple(), wanted);
     } else {
         assert!(rt; false);

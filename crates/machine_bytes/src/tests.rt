@@ -3,6 +3,7 @@
 
 ghost use Rattle.std.specs.Prelude.{◌<◌};
 
+use crate::reading::NO_QUEUE;
 use crate::{STATE_LEN, StateFields, accepts};
 use rv_core::HartFields;
 use rv_traps::CsrFields;
@@ -35,17 +36,6 @@ const WORKED: [u8; 359] = [
     0x00, 0x00, 0x01, 0x00, 0x00, 0x03, 0x30, 0x00, 0x00, 0x00, 0x02, 0x00, 0x00, 0x03, 0x30, 0x00,
     0x00, 0x00, 0x03, 0x03, 0x34, 0x03, 0x35,
 ];
-
-/// The second queue of a block device.
-const NO_QUEUE: QueueFields = QueueFields {
-    num: 0,
-    ready: false,
-    desc: 0,
-    driver: 0,
-    device: 0,
-    next: 0,
-    used: 0,
-};
 
 /// The queue with this number, whose other fields are all different.
 fn queue(num: u32, ready: bool, n: u16) -> QueueFields

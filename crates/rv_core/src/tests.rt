@@ -265,7 +265,7 @@ fn is_change(line: &str) -> Result<bool, Fail> {
     Ok(written && hart.reg(3) == third && csrs.read(0x340) == Some(scratch))
 }
 
-/// Whether a word that names a CSR is one.
+/// Whether a word is legal as the line says: an illegal one traps with cause 2 and the word.
 fn is_legal(word: u32, legal: bool) -> Result<bool, Fail> {
     let mut bus = OneWord { value: 0 };
     let outcome = outcome_of(word, &mut hart_with(0, 0), &mut Csrs::new(), &mut bus)?;
