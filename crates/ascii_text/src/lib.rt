@@ -10,6 +10,3 @@ pub use numbers::{
     NumberFault, decimal_is_read, hexadecimal_is_read, read_decimal, read_hexadecimal,
 };
 pub use writing::{push_decimal, push_hexadecimal, push_hexadecimal_digits};
-
-#[cfg(test)]
-mod tests;

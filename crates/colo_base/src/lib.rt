@@ -23,6 +23,3 @@ pub use memory_sink::MemorySink;
 pub use script_clock::ScriptClock;
 pub use system::{FileShelf, OutSink};
 pub use traits::{Clock, Heard, Link, Shelf, ShelfFault, Sink};
-
-#[cfg(test)]
-mod tests;

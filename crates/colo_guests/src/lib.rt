@@ -2,10 +2,6 @@
 #![tactic(auto)]
 
 mod images;
-#[cfg(test)]
-mod tests;
-#[cfg(test)]
-mod texts;
 mod words;
 
 pub use images::{has_image, image};

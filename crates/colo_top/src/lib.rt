@@ -20,6 +20,3 @@ mod write_image;
 
 pub use fault::Fault;
 pub use top::colo;
-
-#[cfg(test)]
-mod tests;

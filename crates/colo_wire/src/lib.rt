@@ -23,6 +23,3 @@ pub use faults::WireFault;
 pub use messages::Message;
 pub use reading::decode;
 pub use writing::encode;
-
-#[cfg(test)]
-mod tests;

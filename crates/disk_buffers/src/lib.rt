@@ -7,6 +7,3 @@
 mod whole;
 
 pub use whole::{DiskFault, WholeDisk};
-
-#[cfg(test)]
-mod tests;

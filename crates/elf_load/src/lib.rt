@@ -12,6 +12,3 @@ mod segments;
 pub use boot::load;
 pub use fault::ElfFault;
 pub use laws::last_segment_wins;
-
-#[cfg(test)]
-mod tests;

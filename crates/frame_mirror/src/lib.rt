@@ -20,6 +20,3 @@ pub use contents::FrameBytes;
 pub use ingress::{Entry, OTHER_DESTINATION, UDP_FRAME, accept};
 pub use law::accepted_frames_are_clean;
 pub use ring::{INBOX_ROOM, Inbox, Waiting};
-
-#[cfg(test)]
-mod tests;

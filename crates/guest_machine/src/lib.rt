@@ -10,6 +10,3 @@ mod machine;
 pub use fault::BootFault;
 pub use law::{frames_are_sent, steps_are_turns};
 pub use machine::Machine;
-
-#[cfg(test)]
-mod tests;

@@ -24,6 +24,3 @@ pub use build::segment;
 pub use edit::{clean_syn, shift_ack};
 pub use fields::Segment;
 pub use law::{edits_keep_the_rest, segments_read_back};
-
-#[cfg(test)]
-mod tests;

@@ -37,6 +37,3 @@ pub use tcp::TcpView;
 pub use tuple::{GUEST_ADDRESS, GUEST_MAC, Tuple, guest_is_known};
 pub use udp::UdpView;
 pub use why::Why;
-
-#[cfg(test)]
-mod tests;

@@ -17,6 +17,3 @@ pub use accepted::is_accepted;
 pub use kept::{KeptCheckpoint, Tables, hold};
 pub use lines::LastLine;
 pub use slots::Slots;
-
-#[cfg(test)]
-mod tests;

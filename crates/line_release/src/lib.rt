@@ -7,6 +7,3 @@ mod segments;
 
 pub use both::Both;
 pub use parts::has_syn_between;
-
-#[cfg(test)]
-mod tests;

@@ -8,8 +8,6 @@
 mod fields;
 mod law;
 mod reading;
-#[cfg(test)]
-mod tests;
 mod writing;
 
 pub use fields::{STATE_LEN, StateFields};

@@ -14,7 +14,7 @@ use virt_queue::{QueueFields, is_queue_size};
 use virtio_mmio::DeviceFields;
 
 /// A queue that isn't ready, with all fields 0.
-pub(crate) const NO_QUEUE: QueueFields = QueueFields {
+const NO_QUEUE: QueueFields = QueueFields {
     num: 0,
     ready: false,
     desc: 0,

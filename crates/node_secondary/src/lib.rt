@@ -14,6 +14,3 @@ mod telling;
 mod under_way;
 
 pub use node::Secondary;
-
-#[cfg(test)]
-mod tests;

@@ -9,6 +9,3 @@ mod tables;
 
 pub use compare::Compare;
 pub use settle_table::Need;
-
-#[cfg(test)]
-mod tests;

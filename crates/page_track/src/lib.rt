@@ -17,7 +17,5 @@
 #![tactic(auto)]
 
 mod ram;
-#[cfg(test)]
-mod tests;
 
 pub use ram::Ram;

@@ -31,6 +31,3 @@ pub use parsing::{parse_log, parse_schedule, parse_single};
 pub use records::{Answer, Mark, Marks, Record};
 pub use turns::{Turn, TurnFrame};
 pub use writing::{write_line, write_record, write_turn};
-
-#[cfg(test)]
-mod tests;

@@ -18,6 +18,3 @@ pub use grammar::{
 };
 pub use program::assemble;
 pub use writing::disassemble;
-
-#[cfg(test)]
-mod tests;

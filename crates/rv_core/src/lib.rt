@@ -8,8 +8,6 @@ mod buses;
 mod control;
 mod execution;
 mod registers;
-#[cfg(test)]
-mod tests;
 
 pub use buses::Bus;
 pub use registers::{Hart, HartFields, Outcome};

@@ -15,6 +15,3 @@ pub use mnemonic::Mnemonic;
 pub use mnemonics::mnemonic_of;
 pub use names::{Name, push_name, read_name};
 pub use words::{operands_of, word_of};
-
-#[cfg(test)]
-mod tests;

@@ -6,8 +6,6 @@ mod encoder;
 pub mod fields;
 pub mod formats;
 mod instr;
-#[cfg(test)]
-mod tests;
 
 pub use decoder::decode;
 pub use encoder::encode;

@@ -11,7 +11,5 @@ mod clint;
 mod memo;
 mod parts;
 mod platform;
-#[cfg(test)]
-mod tests;
 
 pub use platform::Platform;

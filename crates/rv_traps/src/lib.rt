@@ -7,8 +7,6 @@ pub mod cause;
 mod csrs;
 mod fields;
 mod numbers;
-#[cfg(test)]
-mod tests;
 mod words;
 
 pub use csrs::Csrs;

@@ -21,6 +21,3 @@ mod law;
 pub use given::inward;
 pub use kept::Numbers;
 pub use law::{keeps_the_first_number, raises_the_acknowledgement};
-
-#[cfg(test)]
-mod tests;

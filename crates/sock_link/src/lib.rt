@@ -13,6 +13,3 @@ pub use fault::LinkFault;
 pub use frame::frame_into;
 pub use law::{keeps_the_stream, reads_back, reads_one_way, stays_stuck, tells_the_rest};
 pub use unframer::Unframer;
-
-#[cfg(test)]
-mod tests;

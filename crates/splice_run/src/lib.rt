@@ -11,8 +11,3 @@ mod splicing;
 pub use law::{single_run_is_in_limits, single_run_is_spelled, splices_by_marks};
 pub use solo_run::{SoloFault, solo};
 pub use splicing::splice;
-
-#[cfg(test)]
-mod solo_tests;
-#[cfg(test)]
-mod tests;

@@ -14,6 +14,3 @@ mod script;
 pub use guest::Guest;
 pub use laws::loads_whole;
 pub use script::ScriptGuest;
-
-#[cfg(test)]
-mod tests;

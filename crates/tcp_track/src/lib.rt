@@ -17,6 +17,3 @@ pub use lines::Line;
 pub use offsets::{OFFSET_BOUND, Offset};
 pub use openings::{Incarnation, Opening};
 pub use table::{Entry, Tracker};
-
-#[cfg(test)]
-mod tests;

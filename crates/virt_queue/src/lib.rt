@@ -24,8 +24,6 @@ mod fields;
 mod joined;
 mod queue;
 mod ring;
-#[cfg(test)]
-mod tests;
 mod walk;
 
 pub use chain::Chain;

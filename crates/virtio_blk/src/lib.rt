@@ -13,8 +13,6 @@
 mod blk;
 mod disk;
 mod request;
-#[cfg(test)]
-mod tests;
 
 pub use blk::Blk;
 pub use disk::Disk;

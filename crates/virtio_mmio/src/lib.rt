@@ -16,8 +16,6 @@
 mod fields;
 mod kind;
 mod regs;
-#[cfg(test)]
-mod tests;
 
 pub use fields::DeviceFields;
 pub use kind::{Event, Kind, Served};

@@ -13,8 +13,6 @@
 mod net;
 mod receiving;
 mod sending;
-#[cfg(test)]
-mod tests;
 
 pub use net::{Net, Received};
 pub use sending::sends_chains_in_order;

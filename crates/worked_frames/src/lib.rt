@@ -1,12 +1,12 @@
-//! Worked frames that the tests of several crates take: Ethernet frames between the guest, which is
-//! 10.0.2.15 with the MAC address 52:54:00:12:34:56, and a client, which is 10.0.2.2 with the MAC
-//! address 52:54:00:AA:00:01. Where nothing else is said, they belong to the connection of the
-//! client's port 40000 with the guest's port 7, which the client opened with number 1000. Lengths and
-//! checksums are right; they were worked out outside this repository.
+//! Worked frames that the tests of several crates take: Ethernet frames between the guest, which
+//! is 10.0.2.15 with the MAC address 52:54:00:12:34:56, and a client, which is 10.0.2.2 with the
+//! MAC address 52:54:00:AA:00:01. Where nothing else is said, they belong to the connection of the
+//! client's port 40000 with the guest's port 7, which the client opened with number 1000. Lengths
+//! and checksums are right; they were worked out outside this repository.
 #![tactic(auto)]
 
-/// The guest's SYN and ACK: number 5000, acknowledgement 1001, window 4096 and a maximum segment size
-/// of 1460. Its IPv4 checksum is 0x22BC, its TCP checksum 0xBC4D.
+/// The guest's SYN and ACK: number 5000, acknowledgement 1001, window 4096 and a maximum segment
+/// size of 1460. Its IPv4 checksum is 0x22BC, its TCP checksum 0xBC4D.
 pub const SYN: [u8; 58] = [
     0x52, 0x54, 0x00, 0xAA, 0x00, 0x01, 0x52, 0x54, 0x00, 0x12, 0x34, 0x56, 0x08, 0x00, 0x45, 0x00,
     0x00, 0x2C, 0x00, 0x00, 0x40, 0x00, 0x40, 0x06, 0x22, 0xBC, 0x0A, 0x00, 0x02, 0x0F, 0x0A, 0x00,

@@ -1,0 +1,174 @@
+//! What fits, and what the whole gives, of a checkpoint for a guest with two pages and three
+//! sectors. A line of a script is a message and, after a colon, whether it fits.
+//!
+//! `page` has its number, `disk` the first sector and how many bytes come, `line` flags, the
+//! connection's number and base, and `bytes` how many there are.
+
+ghost use Rattle.std.specs.Prelude.{◌≡◌, true};
+ghost use Rattle.kept_checkpoint.specs.Kept.{HasPageSize};
+
+use colo_wire::{Contents, Message};
+use inet_frame::Tuple;
+use kept_checkpoint::{KeptCheckpoint, Tables};
+use std::alloc::Global;
+use std::process::Abort;
+use std::str::SplitWhitespace;
+use std::test::Fail;
+use worked_frames::ACK_5004;
+
+/// The connection of 10.0.2.2, port 40000, to port 7.
+const TUPLE: Tuple = Tuple {
+    addr: 0x0A00_0202,
+    port: 40000,
+    guest: 7,
+};
+
+/// So many zeros.
+fn zeros(alloc: Global, count: u32) -> Result<Contents, Fail> {
+    let mut bytes = Vec::new(alloc);
+    for _ in 0..count {
+        bytes.push(0)?;
+    }
+    Ok(Contents::from_vec(bytes))
+}
+
+/// The next word's number.
+fn number(words: &mut SplitWhitespace<'_>) -> Result<u32, Fail> {
+    Ok(words.next().ok_or("no number")?.parse()?)
+}
+
+/// A line that its client opened with 1000.
+fn line(words: &mut SplitWhitespace<'_>) -> Result<Message, Fail> {
+    let flags = number(words)?;
+    Ok(Message::Line {
+        tuple: TUPLE,
+        mac: [0x52, 0x54, 0, 0xAA, 0, 1],
+        flags: u8::try_from(flags)?,
+        client: 1000,
+        own: 9000,
+        number: number(words)?,
+        refused: 0,
+        acked: 1,
+        window: 4096,
+        mss: 1460,
+        base: number(words)?,
+    })
+}
+
+/// A waiting frame.
+fn held(alloc: Global) -> Result<Message, Fail> {
+    Ok(Message::Held {
+        index: 5,
+        seen: None,
+        trim: 0,
+        frame: Contents::from_vec(ACK_5004.to_vec(alloc)?),
+    })
+}
+
+/// The message that words name.
+fn message(alloc: Global, text: &str) -> Result<Message, Fail> {
+    let mut words = text.split_whitespace();
+    match words.next().ok_or("no message")? {
+        "page" => Ok(Message::Page {
+            k: number(&mut words)?,
+            bytes: zeros(alloc, 4096)?,
+        }),
+        "disk" => Ok(Message::Disk {
+            first: number(&mut words)?,
+            bytes: zeros(alloc, number(&mut words)?)?,
+        }),
+        "held" => held(alloc),
+        "line" => line(&mut words),
+        "bytes" => Ok(Message::Bytes {
+            bytes: zeros(alloc, number(&mut words)?)?,
+        }),
+        "end" => Ok(Message::End { e: 1 }),
+        _ => Err("no such message".into()),
+    }
+}
+
+/// Whether a page has its size.
+fn is_sized(message: &Message) -> bool
+    ensures { result ≡ true → HasPageSize message.now }
+{
+    match message {
+        Message::Page { bytes, .. } => bytes.as_slice().len() == 4096,
+        _ => true,
+    }
+}
+
+/// Keeps a message, where it fits, and says whether it did.
+fn hear(kept: &mut KeptCheckpoint, message: &Message) -> Result<bool, Fail> {
+    if kept.fits(message) && is_sized(message) {
+        kept.keep(message)?;
+        Ok(true)
+    } else {
+        Ok(false)
+    }
+}
+
+/// Hears the messages of a script, and asserts of each whether it fits.
+fn play(rt: &(impl Abort + AllocGlobal), script: &str) -> Result<Tables, Fail> {
+    let alloc = rt.alloc();
+    let mut kept = KeptCheckpoint::new(alloc, zeros(alloc, 8)?, 2, 3)?;
+    for line in script.lines() {
+        let (text, answer) = line.split_once(" : ").ok_or("no answer")?;
+        let fits = hear(&mut kept, &message(alloc, text)?)?;
+        assert_eq!(rt; if fits { "yes" } else { "no" }, answer, "{line}");
+    }
+    Ok(kept.close()?)
+}
+
+/// The flag 1 is of a line that is opened, and 8 of one that ends; 2147483647 is 2^31 - 1. Bytes
+/// follow their line.
+const FITS: &str = "\
+page 0 : yes
+page 1 : yes
+page 2 : no
+page 4294967295 : no
+disk 0 512 : yes
+disk 0 1536 : yes
+disk 1 1024 : yes
+disk 2 512 : yes
+disk 2 1024 : no
+disk 3 512 : no
+disk 4294967295 512 : no
+bytes 1 : no
+end : no
+line 9 5000 2147483647 : no
+line 9 5000 2147483646 : yes
+line 1 5000 2147483647 : yes
+bytes 1 : no
+line 0 0 0 : yes
+bytes 1 : no
+line 1 5000 0 : yes
+held : yes
+bytes 1 : no
+";
+
+/// The last line has its SYN and the two bytes of the last message.
+const LINES: &str = "\
+line 1 5000 0 : yes
+bytes 2 : yes
+bytes 2 : yes
+held : yes
+line 1 6000 0 : yes
+bytes 2 : yes
+";
+
+#[test]
+fn what_has_a_place_fits(rt: HostRuntime) -> Result<(), Fail> {
+    let tables = play(&rt, FITS)?;
+    assert_eq!(rt; tables.inbox.len(), 1);
+    Ok(())
+}
+
+#[test]
+fn the_last_line_and_the_first_number_are_kept(rt: HostRuntime) -> Result<(), Fail> {
+    let tables = play(&rt, LINES)?;
+    assert_eq!(rt; tables.lines.len(), 1);
+    assert_eq!(rt; tables.lines.line(&TUPLE).ok_or("no line")?.end(), 3);
+    assert_eq!(rt; tables.numbers.number(&TUPLE, 1000), Some(5000));
+    assert_eq!(rt; tables.inbox.len(), 1);
+    Ok(())
+}

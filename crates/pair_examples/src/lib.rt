@@ -1,0 +1,16 @@
+//! Worked examples of the pair: the guest for tests, messages, a checkpoint kept apart, the
+//! secondary, what goes out and the comparer.
+#![tactic(auto)]
+
+#[cfg(test)]
+mod checkpoint;
+#[cfg(test)]
+mod comparer;
+#[cfg(test)]
+mod guest;
+#[cfg(test)]
+mod messages;
+#[cfg(test)]
+mod release;
+#[cfg(test)]
+mod secondary;

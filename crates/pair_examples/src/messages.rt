@@ -1,0 +1,186 @@
+//! Worked examples: each kind once, both ways, and bytes that are no message.
+
+use colo_wire::{Message, WireFault, decode, encode};
+use inet_frame::Tuple;
+use std::alloc::{AllocError, Global};
+use std::test::Fail;
+
+/// The acknowledgement of checkpoint 1, and after it the primary's number 5000 for the connection
+/// of 10.0.2.2, port 40000, to port 7 that its client opened with 1000.
+const SPELLINGS: [u8; 30] = [
+    0x0E, 0, 0, 0, 4, 0, 0, 0, 1, 0x02, 0, 0, 0, 0x10, 0x0A, 0, 2, 2, 0x9C, 0x40, 0, 7, 0, 0, 3,
+    0xE8, 0, 0, 0x13, 0x88,
+];
+
+/// What stands before a waiting frame: index 5, an opening of client 1000 under 5000, trim 4.
+const SEEN: &[u8] = &[
+    0, 0, 0, 0, 0, 0, 0, 5, 1, 0, 0, 3, 0xE8, 0, 0, 0x13, 0x88, 0, 0, 0, 4,
+];
+
+/// The same where no opening was seen.
+const UNSEEN: &[u8] = &[
+    0, 0, 0, 0, 0, 0, 0, 5, 0, 0, 0, 0, 0, 0, 0, 0, 0, 0, 0, 0, 0,
+];
+
+/// A tuple and two numbers.
+const NUMBERS: &[u8] = &[
+    0x0A, 0, 2, 2, 0x9C, 0x40, 0, 7, 0, 0, 3, 0xE8, 0, 0, 0x13, 0x88,
+];
+
+/// A line with every field.
+const LINE: &[u8] = &[
+    0x0A, 0, 2, 2, 0x9C, 0x40, 0, 7, 0x52, 0x54, 0, 0xAA, 0, 1, 15, 0, 0, 3, 0xE8, 0, 0, 0x13,
+    0x88, 0, 0, 0x13, 0x89, 0, 0, 7, 0xD0, 0x7F, 0xFF, 0xFF, 0xFF, 0x10, 0, 2, 0x18, 0, 0, 0, 3,
+];
+
+/// A line that isn't opened and has no refusal: all but its tuple and MAC is 0.
+const CLOSED: &[u8] = &[
+    0x0A, 0, 2, 2, 0x9C, 0x40, 0, 7, 0x52, 0x54, 0, 0xAA, 0, 1, 0, 0, 0, 0, 0, 0, 0, 0, 0, 0, 0, 0,
+    0, 0, 0, 0, 0, 0, 0, 0, 0, 0, 0, 0, 0, 0, 0, 0, 0,
+];
+
+/// Each kind, and those of which something may be left out a second time: the kind, the front of
+/// the body, and how many bytes follow.
+const MESSAGES: [(u8, &[u8], usize); 16] = [
+    (1, SEEN, 14),
+    (2, NUMBERS, 0),
+    (3, &[0, 0, 0, 1], 0),
+    (4, &[], 11),
+    (4, &[], 0),
+    (5, &[0, 0, 0, 9], 4096),
+    (6, &[0, 0, 0, 0x80], 1024),
+    (7, &[0xFF, 0xFF, 0xFF, 0xFF], 512),
+    (8, UNSEEN, 1514),
+    (9, LINE, 0),
+    (9, CLOSED, 0),
+    (10, &[], 1),
+    (11, &[0, 0, 0, 1], 0),
+    (12, NUMBERS, 0),
+    (13, &[], 14),
+    (14, &[0, 0, 0, 1], 0),
+];
+
+/// The first bytes of what is no message, and why: a kind; a length that the kind doesn't allow,
+/// each one off or in between; has-seen, a field that must be 0, and the flags of a line.
+const OTHERS: [(&[u8], WireFault); 36] = [
+    (&[0], WireFault::Kind),
+    (&[15], WireFault::Kind),
+    (&[255], WireFault::Kind),
+    (&[2, 1], WireFault::Length),
+    (&[1, 0, 0, 0, 34], WireFault::Length),
+    (&[1, 0, 0, 6, 0], WireFault::Length),
+    (&[2, 0, 0, 0, 15], WireFault::Length),
+    (&[2, 0, 0, 0, 17], WireFault::Length),
+    (&[3, 0, 0, 0, 3], WireFault::Length),
+    (&[3, 0, 0, 0, 5], WireFault::Length),
+    (&[4, 1, 0, 0, 1], WireFault::Length),
+    (&[4, 0xFF, 0xFF, 0xFF, 0xFF], WireFault::Length),
+    (&[5, 0, 0, 0x10, 3], WireFault::Length),
+    (&[5, 0, 0, 0x10, 5], WireFault::Length),
+    (&[6, 0, 0, 0, 4], WireFault::Length),
+    (&[6, 0, 0, 2, 3], WireFault::Length),
+    (&[6, 0, 0, 2, 5], WireFault::Length),
+    (&[6, 0, 1, 2, 4], WireFault::Length),
+    (&[7, 0, 0, 2, 3], WireFault::Length),
+    (&[7, 0, 0, 2, 5], WireFault::Length),
+    (&[8, 0, 0, 0, 34], WireFault::Length),
+    (&[8, 0, 0, 6, 0], WireFault::Length),
+    (&[9, 0, 0, 0, 42], WireFault::Length),
+    (&[9, 0, 0, 0, 44], WireFault::Length),
+    (&[10, 0, 0, 0, 0], WireFault::Length),
+    (&[10, 0, 1, 0, 1], WireFault::Length),
+    (&[11, 0, 0, 0, 5], WireFault::Length),
+    (&[12, 0, 0, 0, 17], WireFault::Length),
+    (&[13, 0, 0, 0, 13], WireFault::Length),
+    (&[13, 0, 0, 5, 0xEB], WireFault::Length),
+    (&[14, 0, 0, 0, 3], WireFault::Length),
+    (
+        &[1, 0, 0, 0, 35, 0, 0, 0, 0, 0, 0, 0, 5, 2],
+        WireFault::Field,
+    ),
+    (
+        &[1, 0, 0, 0, 35, 0, 0, 0, 0, 0, 0, 0, 5, 0, 1],
+        WireFault::Field,
+    ),
+    (
+        &[
+            9, 0, 0, 0, 43, 10, 0, 2, 2, 0x9C, 0x40, 0, 7, 0x52, 0x54, 0, 0xAA, 0, 1, 16,
+        ],
+        WireFault::Field,
+    ),
+    (
+        &[
+            9, 0, 0, 0, 43, 10, 0, 2, 2, 0x9C, 0x40, 0, 7, 0x52, 0x54, 0, 0xAA, 0, 1, 8,
+        ],
+        WireFault::Field,
+    ),
+    (
+        &[
+            9, 0, 0, 0, 43, 10, 0, 2, 2, 0x9C, 0x40, 0, 7, 0x52, 0x54, 0, 0xAA, 0, 1, 2,
+        ],
+        WireFault::Field,
+    ),
+];
+
+/// A message: its kind, the length of its body, the body's front, and bytes `a`.
+fn spelled(alloc: Global, kind: u8, front: &[u8], fill: usize) -> Result<Vec<u8>, AllocError> {
+    let len = (front.len() as u64).saturating_add(fill as u64);
+    let [_, _, _, _, a, b, c, d] = len.to_be_bytes();
+    let mut bytes = Vec::new(alloc);
+    bytes.push(kind)?;
+    bytes.extend_from_slice(&[a, b, c, d])?;
+    bytes.extend_from_slice(front)?;
+    for _ in 0..fill {
+        bytes.push(b'a')?;
+    }
+    Ok(bytes)
+}
+
+/// Reads a message with a byte after it, and writes it again.
+fn is_read_and_written(alloc: Global, bytes: &[u8]) -> Result<bool, Fail> {
+    let mut more = bytes.to_vec(alloc)?;
+    more.push(9)?;
+    let (message, size) = decode(alloc, &more)?;
+    let mut out = Vec::new(alloc);
+    encode(&message, &mut out)?;
+    Ok(size == bytes.len() && out.as_slice() == bytes)
+}
+
+#[test]
+fn each_kind_is_read_and_written(rt: HostRuntime) -> Result<(), Fail> {
+    for (kind, front, fill) in MESSAGES {
+        let bytes = spelled(rt.alloc(), kind, front, fill)?;
+        let begins = (0..bytes.len()).all(|n| decode(rt.alloc(), &bytes[..n]).err()
+            == Some(WireFault::More));
+        assert!(rt;
+            begins && is_read_and_written(rt.alloc(), &bytes)?,
+            "kind {kind}"
+        );
+    }
+    Ok(())
+}
+
+#[test]
+fn spellings(rt: HostRuntime) -> Result<(), Fail> {
+    let mut out = Vec::new(rt.alloc());
+    encode(&Message::Ack { e: 1 }, &mut out)?;
+    let number = Message::Number {
+        tuple: Tuple {
+            addr: 0x0A00_0202,
+            port: 40000,
+            guest: 7,
+        },
+        client: 1000,
+        number: 5000,
+    };
+    encode(&number, &mut out)?;
+    assert_eq!(rt; out.as_slice(), SPELLINGS.as_slice());
+    Ok(())
+}
+
+#[test]
+fn others_are_refused(rt: HostRuntime) {
+    for (bytes, fault) in OTHERS {
+        assert_eq!(rt; decode(rt.alloc(), bytes).err(), Some(fault), "{bytes:?}");
+    }
+}

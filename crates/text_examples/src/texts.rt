@@ -1,0 +1,121 @@
+//! Worked examples: each form once, and bad texts.
+
+use colo_base::Cause;
+use replay_log::{
+    Answer, Line, LineFault, LineWhy, Mark, TurnFrame, parse_log, parse_schedule, parse_single,
+    write_line, write_record, write_turn,
+};
+use std::test::Fail;
+
+const SCHEDULE: &[u8] = b"P 4294967295 1 256 100000\nS 0 0 0 0\nc\n>\n<\nk\nx s\nr\n";
+
+const LOG: &[u8] =
+    b"c : 0 - 0 0\nc : 1 1000/5000 4 0\nc : 2 arp 1\nc : 3 drop 14\nc : 4 full\nc : 5 lost\nc : -\n\
+P 1 1 0 0 : 0 1\nP 1 0 0 0 : - 0\nP 1 0 0 0 : -\n! q 1 differ\n! k 1\n! a 1\n\
+S 2 1 256 100000 : 18446744073709551615 0\n\
+S 1 0 0 0 : - 2\nS 1 0 0 0 : -\n\
+> : 1\n> : 1 full\n> : 14\n> : -\n< : 12 0 0\n< : -\n\
+! q 4294967295 restart\nk : 0\n! q 0 wait\n! q 1 asked\nk : -\nx p : 0\nr : 2\n";
+
+const SINGLE: &[u8] =
+    b"T 2 0 0 0\nT 4 - 256 100000\nT 4294967295 18446744073709551615/4294967295/0 0 0\n";
+
+#[test]
+fn a_schedule_is_read_and_written(rt: HostRuntime) -> Result<(), Fail> {
+    let lines = parse_schedule(rt.alloc(), SCHEDULE)?;
+    let mut text = Vec::new(rt.alloc());
+    for line in &lines {
+        write_line(line, &mut text)?;
+    }
+    assert_eq!(rt; text.as_slice(), SCHEDULE);
+    assert_eq!(rt; lines.get(6), Some(&Line::StopSecondary));
+    assert_eq!(rt; parse_schedule(rt.alloc(), b"")?.len(), 0);
+    Ok(())
+}
+
+#[test]
+fn a_log_is_read_and_written(rt: HostRuntime) -> Result<(), Fail> {
+    let records = parse_log(rt.alloc(), LOG)?;
+    let mut text = Vec::new(rt.alloc());
+    for record in &records {
+        write_record(record, &mut text)?;
+    }
+    assert_eq!(rt; text.as_slice(), LOG);
+    assert_eq!(rt; records.len(), 23);
+    assert_eq!(rt; parse_log(rt.alloc(), b"x s : 0\n")?.len(), 1);
+    let paused = records.get(9).ok_or("no record")?;
+    assert_eq!(rt; paused.answer, Answer::Nothing);
+    let captured = Mark::Captured {
+        e: 1,
+        why: Cause::Differ,
+    };
+    assert_eq!(rt; paused.marks.as_slice().first(), Some(&captured));
+    Ok(())
+}
+
+#[test]
+fn a_single_run_is_read_and_written(rt: HostRuntime) -> Result<(), Fail> {
+    let turns = parse_single(rt.alloc(), SINGLE)?;
+    let mut text = Vec::new(rt.alloc());
+    for turn in &turns {
+        write_turn(turn, &mut text)?;
+    }
+    assert_eq!(rt; text.as_slice(), SINGLE);
+    let first = turns.get(0).ok_or("no turn")?;
+    assert_eq!(rt; first.frame, TurnFrame::Plain { index: 0 });
+    Ok(())
+}
+
+#[test]
+fn a_bad_schedule_is_refused_at_its_first_bad_line(rt: HostRuntime) {
+    let cases: [(&[u8], u64, LineWhy); 20] = [
+        (b"x p\nx s\n", 2, LineWhy::SecondStop),
+        (b"r\n", 1, LineWhy::FalseReport),
+        (b"x p\nr\nr\n", 3, LineWhy::FalseReport),
+        (b"P 1 2 0 0\n", 1, LineWhy::Number),
+        (b"P 1 0 0 0", 1, LineWhy::Count),
+        (b"Q", 1, LineWhy::Word),
+        (b"\n", 1, LineWhy::Word),
+        (b"P  1 0 0 0\n", 1, LineWhy::Count),
+        (b"P 1 0 0\n", 1, LineWhy::Count),
+        (b"P 01 0 0 0\n", 1, LineWhy::Number),
+        (b"P - 0 0 0\n", 1, LineWhy::Number),
+        (b"P 4294967296 0 0 0\n", 1, LineWhy::Number),
+        (b"S 0 0 257 0\n", 1, LineWhy::Number),
+        (b"S 0 0 0 100001\n", 1, LineWhy::Number),
+        (b"x q\n", 1, LineWhy::Word),
+        (b"x\n", 1, LineWhy::Count),
+        (b"c \n", 1, LineWhy::Count),
+        (b"c\n>\n! k 1\n", 3, LineWhy::Word),
+        (b"c : -\n", 1, LineWhy::Count),
+        (b"\xFF\n", 1, LineWhy::Word),
+    ];
+    for (text, line, why) in cases {
+        let fault = parse_schedule(rt.alloc(), text).err();
+        assert_eq!(rt; fault, Some(LineFault::Bad { line, why }));
+    }
+}
+
+#[test]
+fn a_bad_log_is_refused_at_its_first_bad_line(rt: HostRuntime) {
+    let cases: [(&[u8], u64, LineWhy); 14] = [
+        (b"! k 1\n", 1, LineWhy::Word),
+        (b"x p : -\n", 1, LineWhy::Number),
+        (b"> : 2 full\n", 1, LineWhy::Number),
+        (b"c : 0 arp 2\n", 1, LineWhy::Number),
+        (b"c : 0 flop 5\n", 1, LineWhy::Count),
+        (b"c\n", 1, LineWhy::Count),
+        (b"> : 15\n", 1, LineWhy::Number),
+        (b"c : 0 drop 0\n", 1, LineWhy::Number),
+        (b"c : 18446744073709551616 full\n", 1, LineWhy::Number),
+        (b"c : 0 1/2/3 0 0\n", 1, LineWhy::Number),
+        (b"k : -\n! q 1 because\n", 2, LineWhy::Word),
+        (b"x p : 0\nx s : 0\n", 2, LineWhy::SecondStop),
+        (b"r : 0\n", 1, LineWhy::FalseReport),
+        (b"k : 0\n! k 1\n! a 4294967296\n", 3, LineWhy::Number),
+    ];
+    for (text, line, why) in cases {
+        let fault = parse_log(rt.alloc(), text).err();
+        assert_eq!(rt; fault, Some(LineFault::Bad { line, why }));
+    }
+}
