@@ -4,6 +4,8 @@ pub mod TestLemmas
 pub mod ClientLemmas
 pub mod SameLemmas
 pub mod BootLemmas
+pub mod CommandLemmas
+pub mod LoadLemmas
 pub mod SingleLemmas
 pub mod LimitLemmas
 pub mod PartLemmas

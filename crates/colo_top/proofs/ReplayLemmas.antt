@@ -1,5 +1,5 @@
 -- From the parts of a command to the whole of it.
-use Rattle.std.proofs.Common.{◌≡◌, ℕ, List, [], ◌∷◌, Some, ◌⊎◌, inl, inr, lit<, refl, ◌∙◌, Result, Ok, Err, IfOk, IfErr, OnOk, String, string_bytes, IsTrue}
+use Rattle.std.proofs.Common.{◌≡◌, ℕ, List, inl, inr, lit<, refl, subst, sym, Result, Ok, Err, IfOk, IfErr, OnOk, String, string_bytes}
 use Rattle.std.specs.declared.alloc.Global.{Global}
 use Rattle.colo_base.specs.Count.{Increased}
 use Rattle.colo_base.specs.Shelf.{ShelfState, NoFetchFailed, NoWriteFailed}
@@ -12,107 +12,75 @@ use Rattle.splice_run.specs.Single.{single_run}
 use Rattle.state_wire.specs.Guest.{Meaning}
 use Rattle.colo_top.specs.declared.fault.Fault.{Fault}
 use Rattle.colo_top.specs.declared.fault.Fault.TheVariants.{Usage, Refused, Read, Write, NoMemory}
-use Rattle.colo_top.specs.declared.output.Output.{Output}
 use Rattle.colo_top.specs.declared.output.Output.TheVariants.{Named}
 use Rattle.colo_top.specs.declared.schedule.Turn.{Turn}
-use Rattle.colo_top.specs.Command.{reads, replay_outputs, named_outputs}
-use Rattle.colo_top.specs.Files.{file_name, HasFile, HasFiles, KeepsFiles, KeepsOrEmpties, WriteFailed, WritesOnly, AppendsPart, empty_files}
+use Rattle.colo_top.specs.Command.{replay_outputs, named_outputs}
+use Rattle.colo_top.specs.Files.{AppendsPart, empty_files, file_name, HasFile, HasFiles, KeepsFiles, KeepsOrEmpties, WriteFailed, WritesOnly}
+use Rattle.colo_top.specs.Loading.{IsLoaded, LoadFails}
 use Rattle.colo_top.specs.OneFile.{FileCutOff, FileFails, HasFront, HasOneFile}
 use Rattle.colo_top.specs.Outcome.{Completes, FailsBy, HasImage, IsUntouched, bytes_line}
-use Rattle.colo_top.specs.Reading.{Texts, AreRead, FetchFailed}
-use Rattle.colo_top.specs.Replay.{IsReady, Prepared, RunDone, IsCutOff}
+use Rattle.colo_top.specs.Replay.{IsCutOff, Prepared, ReplayCutOff, RunDone}
 use Rattle.colo_top.specs.RunSteps.{FailsTest, PreparedFails}
 use Rattle.colo_top.specs.Schedule.{IsTurnSchedule}
-use Rattle.colo_top.specs.Splice.{HasLog, spliced_text, turns_line}
+use Rattle.colo_top.specs.Splice.{HasLog, SpliceCutOff, spliced_text, turns_line}
 use Rattle.colo_top.specs.Status.{read_fault, write_fault}
-use Rattle.colo_top.specs.Tests.{TestLog, TestRun, TestSchedule}
+use Rattle.colo_top.specs.Tests.{TestLog, TestSchedule}
 use Rattle.colo_top.specs.Words.{RunWords, replay_command, SpliceWords, splice_command, ImageWords, image_command}
-use Rattle.colo_top.proofs.FileLemmas.{writes_none, writes_after, failed_from}
-
--- ---- what is read comes before what is written
-
-pub kept_from : (out : List ℕ) (old mid new : ShelfState) → KeepsFiles old mid → (outputs : List Output)
-    → KeepsOrEmpties out outputs mid new → KeepsOrEmpties out outputs old new
-kept_from out old mid new kept [] each = tt
-kept_from out old mid new kept (o ∷ os) each =
-    (λ seen. at seen (each.0 (kept.observable ∙ seen)), kept_from out old mid new kept os each.1)
-  where
-    at : IsTrue old.observable → (new.contents (file_name out o) ≡ mid.contents (file_name out o))
-        ⊎ (new.contents (file_name out o) ≡ Some []) → (new.contents (file_name out o) ≡ old.contents (file_name out o))
-        ⊎ (new.contents (file_name out o) ≡ Some [])
-    at seen (inl same) = inl (same ∙ kept.others seen (file_name out o) (λ none. none))
-    at seen (inr empty) = inr empty
+use Rattle.colo_top.proofs.CommandLemmas.{completes, fails_to_write, kept_from, runs_out}
+use Rattle.colo_top.proofs.FileLemmas.{failed_from}
+use Rattle.colo_top.proofs.LoadLemmas.{lines_fail, load_fails, started}
 
 -- ---- a replay
 
--- the file that failed was fetched, and those before it
-pub read_fails : (c : RunWords) (old new : ShelfState) (fault : ShelfFault) → KeepsFiles old new
-    → NoWriteFailed old new → (fault ≡ Failed → FetchFailed (reads (replay_command c)) old new)
-    → FailsBy (replay_command c) old new (read_fault fault)
-read_fails c old new Failed kept writes cause = record { failed = cause refl; files = kept; writes = writes }
-read_fails c old new shelf_memory kept writes cause = record { files = inl kept }
+-- by what was loaded, or wasn't
+pub replay_load_fails : (c : RunWords) (old mid : ShelfState) (fault : Fault) → LoadFails c old mid fault
+    → FailsBy (replay_command c) old mid fault
+replay_load_fails c old mid =
+    load_fails (replay_command c) c TestSchedule old mid refl (λ texts found read test. (texts, read, test))
 
-module _ (c : RunWords) (old mid : ShelfState) (texts : Texts) (read : AreRead old c texts)
-    (kept : KeepsFiles old mid) (writes : NoWriteFailed old mid) (fetches : NoFetchFailed old mid) where
-  untouched : IsUntouched old mid
-  untouched = record { files = kept; fetches = fetches; writes = writes }
+pub replay_lines_fail : (c : RunWords) (old mid : ShelfState) (machine : Meaning) (frames : List (List ℕ))
+    (lines : List ℕ) → IsLoaded c old mid machine frames lines → (fault : Fault) → FailsTest (TestSchedule lines) fault
+    → FailsBy (replay_command c) old mid fault
+replay_lines_fail c old mid =
+    lines_fail (replay_command c) c TestSchedule old mid refl (λ texts found read test. (texts, read, test))
 
-  -- a test refuses what was read
-  pub refused : (fault : Fault) → FailsTest (TestRun c.mib (TestSchedule texts.lines) texts) fault
-      → FailsBy (replay_command c) old mid fault
-  refused Usage why = why
-  refused (Refused refusal) why = inl (record { found = (texts, read, why); files = untouched })
-  refused Read why = absurd why
-  refused Write why = absurd why
-  refused NoMemory why = record { files = inl kept }
+module _ (c : RunWords) (old mid : ShelfState) (machine : Meaning) (frames : List (List ℕ)) (lines : List ℕ)
+    (loaded : IsLoaded c old mid machine frames lines) (turns : List Turn) (schedule : IsTurnSchedule turns lines)
+    (new : ShelfState) (change : WritesOnly c.out replay_outputs mid new) where
+  abbrev prepared : Prepared c old
+  prepared = record {
+    start = started c old mid machine frames lines loaded;
+    turns = turns;
+    schedule = subst (IsTurnSchedule turns) (sym loaded.lines_are) schedule;
+  }
 
-  module _ (machine : Meaning) (frames : List (List ℕ)) (ready : IsReady c.mib texts machine frames)
-      (turns : List Turn) (schedule : IsTurnSchedule turns texts.lines) (new : ShelfState)
-      (change : WritesOnly c.out replay_outputs mid new) where
-    abbrev prepared : Prepared c old
-    prepared = record {
-      start = record { texts = texts; read = read; machine = machine; frames = frames; ready = ready };
-      turns = turns;
-      schedule = schedule;
-    }
+  cut_off : IsCutOff mid new c.out machine frames turns → ReplayCutOff c old new
+  cut_off (inl created) = record {
+    prepared = prepared;
+    run = inl (kept_from c.out old mid new loaded.untouched.files replay_outputs created);
+  }
+  cut_off (inr cut) = record { prepared = prepared; run = inr cut }
 
-    all_changes : WritesOnly c.out replay_outputs old new
-    all_changes = writes_after c.out replay_outputs old mid new kept fetches change
+  run_failed : (fault : Fault) → PreparedFails mid new c.out machine frames turns fault
+      → FailsBy (replay_command c) old new fault
+  run_failed Usage fails = fails
+  run_failed (Refused refusal) fails = absurd fails
+  run_failed Read fails = absurd fails
+  run_failed Write fails =
+      fails_to_write (replay_command c) old mid new loaded.untouched change fails.0 (cut_off fails.1)
+  run_failed NoMemory fails = runs_out (replay_command c) old mid new loaded.untouched change (cut_off fails)
 
-    cut_off : IsCutOff mid new c.out machine frames turns → IsCutOff old new c.out machine frames turns
-    cut_off (inl created) = inl (kept_from c.out old mid new kept replay_outputs created)
-    cut_off (inr cut) = inr cut
+  pub replay_done : (r : Result (String Global) Fault)
+      → IfOk r (λ line. RunDone new c.out machine frames turns (string_bytes line)) → OnOk r (NoWriteFailed mid new)
+      → IfOk r (λ line. Completes (replay_command c) old new (string_bytes line))
+  replay_done (Ok line) run none = completes (replay_command c) old mid new loaded.untouched change (string_bytes line)
+      (record { prepared = prepared; run = run }) none
+  replay_done (Err fault) run none = tt
 
-    run_failed : (fault : Fault) → PreparedFails mid new c.out machine frames turns fault
-        → FailsBy (replay_command c) old new fault
-    run_failed Usage fails = fails
-    run_failed (Refused refusal) fails = absurd fails
-    run_failed Read fails = absurd fails
-    run_failed Write fails =
-        record {
-          failed = failed_from c.out replay_outputs old mid new
-              (writes_after c.out replay_outputs old mid mid kept fetches
-              (writes_none c.out replay_outputs mid)) fails.0;
-          files = record { prepared = prepared; run = cut_off fails.1 };
-          change = all_changes;
-        }
-    run_failed NoMemory fails =
-        record { files = inr (record { prepared = prepared; run = cut_off fails }, all_changes) }
-
-    pub replay_done : (r : Result (String Global) Fault)
-        → IfOk r (λ line. RunDone new c.out machine frames turns (string_bytes line)) → OnOk r (NoWriteFailed mid new)
-        → IfOk r (λ line. Completes (replay_command c) old new (string_bytes line))
-    replay_done (Ok line) run none = record {
-      work = record { prepared = prepared; run = run };
-      change = all_changes;
-      writes = λ name. none name ∙ writes name;
-    }
-    replay_done (Err fault) run none = tt
-
-    pub replay_fails : (r : Result (String Global) Fault) → IfErr r (PreparedFails mid new c.out machine frames turns)
-        → IfErr r (FailsBy (replay_command c) old new)
-    replay_fails (Ok line) fails = tt
-    replay_fails (Err fault) fails = run_failed fault fails
+  pub replay_fails : (r : Result (String Global) Fault) → IfErr r (PreparedFails mid new c.out machine frames turns)
+      → IfErr r (FailsBy (replay_command c) old new)
+  replay_fails (Ok line) fails = tt
+  replay_fails (Err fault) fails = run_failed fault fails
 
 -- ---- one file
 
@@ -175,13 +143,12 @@ log_unread c old new shelf_memory kept writes cause = record { files = inl kept 
 
 module _ (c : SpliceWords) (old mid : ShelfState) (text : List ℕ) (read : HasFile old c.log text)
     (kept : KeepsFiles old mid) (writes : NoWriteFailed old mid) (fetches : NoFetchFailed old mid) where
+  abbrev untouched : IsUntouched old mid
+  untouched = record { files = kept; fetches = fetches; writes = writes }
+
   pub log_refused : (fault : Fault) → FailsTest (TestLog text) fault → FailsBy (splice_command c) old mid fault
   log_refused Usage why = why
-  log_refused (Refused refusal) why =
-      inl (record {
-        found = (text, read, why);
-        files = record { files = kept; fetches = fetches; writes = writes };
-      })
+  log_refused (Refused refusal) why = inl (record { found = (text, read, why); files = untouched })
   log_refused Read why = absurd why
   log_refused Write why = absurd why
   log_refused NoMemory why = record { files = inl kept }
@@ -194,12 +161,10 @@ module _ (c : SpliceWords) (old mid : ShelfState) (text : List ℕ) (read : HasF
     abbrev from : HasLog c old
     from = record { text = text; read = read; log = log; spelled = spelled }
 
-    all_written : WritesOnly c.out named_outputs old new
-    all_written = writes_after c.out named_outputs old mid new kept fetches change
-
-    cut_from : FileCutOff mid new c.out (spliced_text log) → FileCutOff old new c.out (spliced_text log)
-    cut_from (inl created) = inl (kept_from c.out old mid new kept named_outputs created)
-    cut_from (inr front) = inr front
+    cut_from : FileCutOff mid new c.out (spliced_text log) → SpliceCutOff c old new
+    cut_from (inl created) =
+        record { from = from; files = inl (kept_from c.out old mid new kept named_outputs created) }
+    cut_from (inr front) = record { from = from; files = inr front }
 
     pub splice_fails : (fault : Fault) → FileFails mid new c.out (spliced_text log) fault
         → FailsBy (splice_command c) old new fault
@@ -207,23 +172,13 @@ module _ (c : SpliceWords) (old mid : ShelfState) (text : List ℕ) (read : HasF
     splice_fails (Refused refusal) fails = absurd fails
     splice_fails Read fails = absurd fails
     splice_fails Write fails =
-        record {
-          failed = failed_from c.out named_outputs old mid new
-              (writes_after c.out named_outputs old mid mid kept fetches
-              (writes_none c.out named_outputs mid)) fails.0;
-          files = record { from = from; files = cut_from fails.1 };
-          change = all_written;
-        }
-    splice_fails NoMemory fails = record { files = inr (record { from = from; files = cut_from fails }, all_written) }
+        fails_to_write (splice_command c) old mid new untouched change fails.0 (cut_from fails.1)
+    splice_fails NoMemory fails = runs_out (splice_command c) old mid new untouched change (cut_from fails)
 
     pub splice_line_fails : HasOneFile new c.out (spliced_text log) → FailsBy (splice_command c) old new NoMemory
     splice_line_fails files = splice_fails NoMemory (inr (whole_front new c.out (spliced_text log) files))
 
     pub splice_done : (line : List ℕ) → line ≡ turns_line (single_run log) → HasOneFile new c.out (spliced_text log)
         → NoWriteFailed mid new → Completes (splice_command c) old new line
-    splice_done line said files none =
-        record {
-          work = record { from = from; files = files; said = said };
-          change = all_written;
-          writes = λ name. none name ∙ writes name;
-        }
+    splice_done line said files none = completes (splice_command c) old mid new untouched change line
+        (record { from = from; files = files; said = said }) none

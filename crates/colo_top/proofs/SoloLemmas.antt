@@ -5,7 +5,7 @@ use Rattle.std.specs.declared.alloc.Global.{Global}
 use Rattle.std.proofs.lemmas.List.{take_more}
 use Rattle.std.proofs.lemmas.List.Elements.{All-nil, All-append}
 use Rattle.std.proofs.lemmas.Option.{get_or_from_slice_get}
-use Rattle.colo_base.specs.Shelf.{ShelfState, NoFetchFailed, NoWriteFailed}
+use Rattle.colo_base.specs.Shelf.{ShelfState, NoWriteFailed}
 use Rattle.colo_base.specs.declared.traits.ShelfFault.{ShelfFault}
 use Rattle.colo_base.specs.declared.traits.ShelfFault.TheVariants.{Failed, NoMemory as shelf_memory}
 use Rattle.colo_base.proofs.StateLemmas.{front_itself}
@@ -24,20 +24,20 @@ use Rattle.colo_top.specs.declared.fault.Fault.TheVariants.{Usage, Refused, Read
 use Rattle.colo_top.specs.declared.output.Output.{Output}
 use Rattle.colo_top.specs.declared.output.Output.TheVariants.{Sent, Ram, Disk}
 use Rattle.colo_top.specs.declared.single_run.Left.{Left}
-use Rattle.colo_top.specs.Command.{reads, solo_outputs}
-use Rattle.colo_top.specs.Files.{Appends, AppendsPart, empty_files, HasFiles, KeepsFiles, KeepsOrEmpties, WriteFailed, WritesOnly}
+use Rattle.colo_top.specs.Command.{solo_outputs}
+use Rattle.colo_top.specs.Files.{Appends, AppendsPart, empty_files, HasFiles, KeepsOrEmpties, WriteFailed, WritesOnly}
+use Rattle.colo_top.specs.Loading.{IsLoaded, LoadFails}
 use Rattle.colo_top.specs.MachineRun.{disk_bytes, machine_run, memory_bytes, start_of}
 use Rattle.colo_top.specs.Outcome.{Completes, FailsBy}
-use Rattle.colo_top.specs.Reading.{AreRead, FetchFailed, Texts}
-use Rattle.colo_top.specs.Replay.{IsReady}
 use Rattle.colo_top.specs.RunSteps.{FailsTest}
-use Rattle.colo_top.specs.Solo.{IsCutOff, LeftPart, SingleCutOff, SingleDone, SoloPrepared, made_line, solo_files}
+use Rattle.colo_top.specs.Solo.{IsCutOff, LeftPart, SingleCutOff, SingleDone, SoloCutOff, SoloPrepared, made_line, solo_files}
 use Rattle.colo_top.specs.SoloSteps.{IsLeft, MakingFails, SingleFails}
-use Rattle.colo_top.specs.Status.{read_fault, write_fault}
-use Rattle.colo_top.specs.Tests.{TestRun, TestSingle}
+use Rattle.colo_top.specs.Status.{write_fault}
+use Rattle.colo_top.specs.Tests.{TestSingle}
 use Rattle.colo_top.specs.Words.{RunWords, solo_command}
-use Rattle.colo_top.proofs.FileLemmas.{failed_from, writes_after, writes_none}
-use Rattle.colo_top.proofs.ReplayLemmas.{kept_from}
+use Rattle.colo_top.proofs.CommandLemmas.{completes, fails_to_write, kept_from, runs_out, stops_in_run}
+use Rattle.colo_top.proofs.FileLemmas.{failed_from}
+use Rattle.colo_top.proofs.LoadLemmas.{lines_fail, load_fails, started}
 
 -- ---- the files of a single run
 
@@ -237,78 +237,54 @@ module _ (machine : Meaning) (frames : List (List ℕ)) (turns : List Turn) (old
 
 -- ---- the command
 
--- the file that failed was fetched, and those before it
-pub single_unread : (c : RunWords) (old new : ShelfState) (fault : ShelfFault) → KeepsFiles old new
-    → NoWriteFailed old new → (fault ≡ Failed → FetchFailed (reads (solo_command c)) old new)
-    → FailsBy (solo_command c) old new (read_fault fault)
-single_unread c old new Failed kept writes cause = record { failed = cause refl; files = kept; writes = writes }
-single_unread c old new shelf_memory kept writes cause = record { files = inl kept }
+-- by what was loaded, or wasn't
+pub solo_load_fails : (c : RunWords) (old mid : ShelfState) (fault : Fault) → LoadFails c old mid fault
+    → FailsBy (solo_command c) old mid fault
+solo_load_fails c old mid =
+    load_fails (solo_command c) c TestSingle old mid refl (λ texts found read test. (texts, read, test))
 
-module _ (c : RunWords) (old mid : ShelfState) (texts : Texts) (read : AreRead old c texts)
-    (kept : KeepsFiles old mid) (writes : NoWriteFailed old mid) (fetches : NoFetchFailed old mid) where
-  -- a test refuses what was read
-  pub single_refused : (fault : Fault) → FailsTest (TestRun c.mib (TestSingle texts.lines) texts) fault
-      → FailsBy (solo_command c) old mid fault
-  single_refused Usage why = why
-  single_refused (Refused refusal) why =
-      inl (record {
-        found = (texts, read, why);
-        files = record { files = kept; fetches = fetches; writes = writes };
-      })
-  single_refused Read why = absurd why
-  single_refused Write why = absurd why
-  single_refused NoMemory why = record { files = inl kept }
+pub solo_lines_fail : (c : RunWords) (old mid : ShelfState) (machine : Meaning) (frames : List (List ℕ))
+    (lines : List ℕ) → IsLoaded c old mid machine frames lines → (fault : Fault) → FailsTest (TestSingle lines) fault
+    → FailsBy (solo_command c) old mid fault
+solo_lines_fail c old mid =
+    lines_fail (solo_command c) c TestSingle old mid refl (λ texts found read test. (texts, read, test))
 
-  module _ (machine : Meaning) (frames : List (List ℕ)) (ready : IsReady c.mib texts machine frames)
-      (turns : List Turn) (single : IsSingle turns texts.lines) (new : ShelfState)
-      (change : WritesOnly c.out solo_outputs mid new) where
-    abbrev prepared : SoloPrepared c old
-    prepared = record {
-      start = record { texts = texts; read = read; machine = machine; frames = frames; ready = ready };
-      turns = turns;
-      single = single;
-    }
+module _ (c : RunWords) (old mid : ShelfState) (machine : Meaning) (frames : List (List ℕ)) (lines : List ℕ)
+    (loaded : IsLoaded c old mid machine frames lines) (turns : List Turn) (single : IsSingle turns lines)
+    (new : ShelfState) (change : WritesOnly c.out solo_outputs mid new) where
+  abbrev prepared : SoloPrepared c old
+  prepared = record {
+    start = started c old mid machine frames lines loaded;
+    turns = turns;
+    single = subst (IsSingle turns) (sym loaded.lines_are) single;
+  }
 
-    all_changes : WritesOnly c.out solo_outputs old new
-    all_changes = writes_after c.out solo_outputs old mid new kept fetches change
+  cut_off : IsCutOff mid new c.out machine frames turns → SoloCutOff c old new
+  cut_off (inl created) = record {
+    prepared = prepared;
+    run = inl (kept_from c.out old mid new loaded.untouched.files solo_outputs created);
+  }
+  cut_off (inr cut) = record { prepared = prepared; run = inr cut }
 
-    cut_off : IsCutOff mid new c.out machine frames turns → IsCutOff old new c.out machine frames turns
-    cut_off (inl created) = inl (kept_from c.out old mid new kept solo_outputs created)
-    cut_off (inr cut) = inr cut
+  run_failed : (fault : Fault) → SingleFails mid new c.out machine frames turns fault
+      → FailsBy (solo_command c) old new fault
+  run_failed Usage fails = fails
+  run_failed (Refused refusal) fails = inr (stops_in_run (solo_command c) old mid new loaded.untouched change refusal
+      (record { prepared = prepared; run = fails.0 }) fails.1.files fails.1.writes)
+  run_failed Read fails = absurd fails
+  run_failed Write fails =
+      fails_to_write (solo_command c) old mid new loaded.untouched change fails.0 (cut_off fails.1)
+  run_failed NoMemory fails = runs_out (solo_command c) old mid new loaded.untouched change (cut_off fails)
 
-    run_failed : (fault : Fault) → SingleFails mid new c.out machine frames turns fault
-        → FailsBy (solo_command c) old new fault
-    run_failed Usage fails = fails
-    run_failed (Refused refusal) fails =
-        inr (record {
-          stop = record { prepared = prepared; run = fails.0 };
-          files = fails.1.files;
-          change = all_changes;
-          writes = λ name. fails.1.writes name ∙ writes name;
-        })
-    run_failed Read fails = absurd fails
-    run_failed Write fails =
-        record {
-          failed = failed_from c.out solo_outputs old mid new
-              (writes_after c.out solo_outputs old mid mid kept fetches (writes_none c.out solo_outputs mid)) fails.0;
-          files = record { prepared = prepared; run = cut_off fails.1 };
-          change = all_changes;
-        }
-    run_failed NoMemory fails =
-        record { files = inr (record { prepared = prepared; run = cut_off fails }, all_changes) }
+  pub solo_done : (r : Result (String Global) Fault)
+      → IfOk r (λ line. SingleDone new c.out machine frames turns (string_bytes line))
+      → OnOk r (NoWriteFailed mid new)
+      → IfOk r (λ line. Completes (solo_command c) old new (string_bytes line))
+  solo_done (Ok line) run none = completes (solo_command c) old mid new loaded.untouched change (string_bytes line)
+      (record { prepared = prepared; run = run }) none
+  solo_done (Err fault) run none = tt
 
-    pub solo_done : (r : Result (String Global) Fault)
-        → IfOk r (λ line. SingleDone new c.out machine frames turns (string_bytes line))
-        → OnOk r (NoWriteFailed mid new)
-        → IfOk r (λ line. Completes (solo_command c) old new (string_bytes line))
-    solo_done (Ok line) run none = record {
-      work = record { prepared = prepared; run = run };
-      change = all_changes;
-      writes = λ name. none name ∙ writes name;
-    }
-    solo_done (Err fault) run none = tt
-
-    pub solo_fails : (r : Result (String Global) Fault) → IfErr r (SingleFails mid new c.out machine frames turns)
-        → IfErr r (FailsBy (solo_command c) old new)
-    solo_fails (Ok line) fails = tt
-    solo_fails (Err fault) fails = run_failed fault fails
+  pub solo_fails : (r : Result (String Global) Fault) → IfErr r (SingleFails mid new c.out machine frames turns)
+      → IfErr r (FailsBy (solo_command c) old new)
+  solo_fails (Ok line) fails = tt
+  solo_fails (Err fault) fails = run_failed fault fails

@@ -12,6 +12,7 @@ pub mod Status
 pub mod OneFile
 pub mod Tests
 pub mod Replay
+pub mod Loading
 pub mod Splice
 pub mod Solo
 pub mod SoloSteps

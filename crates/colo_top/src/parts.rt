@@ -6,6 +6,15 @@ ghost use Rattle.colo_top.specs.MachineRun.{disk_bytes, memory_bytes};
 use state_wire::Guest;
 use std::alloc::{AllocError, Global};
 
+/// The memory and the disk of a guest.
+#[derive(Drop)]
+pub struct Parts {
+    /// Memory, page after page.
+    pub ram: Vec<u8>,
+    /// The disk, sector after sector.
+    pub disk: Vec<u8>,
+}
+
 /// Adds the bytes of a page; nothing where there is none of that number.
 fn add_page<G: Guest>(guest: &G, k: u32, bytes: &mut Vec<u8>) -> Result<(), AllocError>
     ensures { OnOk result (bytes.new.items
@@ -29,7 +38,7 @@ fn add_sector<G: Guest>(guest: &G, k: u32, bytes: &mut Vec<u8>) -> Result<(), Al
 }
 
 /// The bytes of memory, page after page.
-pub fn memory_of<G: Guest>(alloc: Global, guest: &G) -> Result<Vec<u8>, AllocError>
+fn memory_of<G: Guest>(alloc: Global, guest: &G) -> Result<Vec<u8>, AllocError>
     ensures { IfOk result (λ bytes. bytes.items ≡ memory_bytes (G.meaning guest.now).state) }
 {
     let mut bytes = Vec::new(alloc);
@@ -40,7 +49,7 @@ pub fn memory_of<G: Guest>(alloc: Global, guest: &G) -> Result<Vec<u8>, AllocErr
 }
 
 /// The bytes of the disk, sector after sector.
-pub fn disk_of<G: Guest>(alloc: Global, guest: &G) -> Result<Vec<u8>, AllocError>
+fn disk_of<G: Guest>(alloc: Global, guest: &G) -> Result<Vec<u8>, AllocError>
     ensures { IfOk result (λ bytes. bytes.items ≡ disk_bytes (G.meaning guest.now).state) }
 {
     let mut bytes = Vec::new(alloc);
@@ -48,4 +57,14 @@ pub fn disk_of<G: Guest>(alloc: Global, guest: &G) -> Result<Vec<u8>, AllocError
         add_sector(guest, k, &mut bytes)?;
     }
     Ok(bytes)
+}
+
+/// Takes both.
+pub fn parts_of<G: Guest>(alloc: Global, guest: &G) -> Result<Parts, AllocError>
+    ensures ram { IfOk result (λ parts. parts.ram.items ≡ memory_bytes (G.meaning guest.now).state) }
+    ensures disk { IfOk result (λ parts. parts.disk.items ≡ disk_bytes (G.meaning guest.now).state) }
+{
+    let ram = memory_of(alloc, guest)?;
+    let disk = disk_of(alloc, guest)?;
+    Ok(Parts { ram, disk })
 }

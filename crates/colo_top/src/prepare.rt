@@ -4,6 +4,8 @@ ghost use Rattle.std.specs.Prelude.{◌≡◌, ◌≤◌, None, IfOk, IfErr, OnO
 ghost use Rattle.elf_load.specs.Boot.{elf_case};
 ghost use Rattle.guest_machine.specs.Boot.{ram_size};
 ghost use Rattle.guest_machine.specs.Guest.{machine_meaning};
+ghost use Rattle.colo_top.specs.Command.{HasRam, run_of};
+ghost use Rattle.colo_top.specs.Loading.{IsLoaded, LoadFails};
 ghost use Rattle.colo_top.specs.MachineRun.{IsBooted};
 ghost use Rattle.colo_top.specs.ReadBytes.{texts_of};
 ghost use Rattle.colo_top.specs.Replay.{IsReady};
@@ -11,9 +13,10 @@ ghost use Rattle.colo_top.specs.RunSteps.{FailsTest};
 ghost use Rattle.colo_top.specs.Tests.{TestImage, TestMachine, TestStart};
 
 use crate::client::read_client;
-use crate::fault::{Fault, Refusal};
-use crate::input::Inputs;
-use colo_base::Frames;
+use crate::fault::{Fault, Refusal, read_fault};
+use crate::input::{Inputs, read_all};
+use crate::words::Run;
+use colo_base::{Frames, Shelf};
 use disk_buffers::{DiskFault, WholeDisk};
 use elf_load::load;
 use guest_machine::{BootFault, Machine};
@@ -24,9 +27,17 @@ const MIB: usize = 1024 * 1024;
 
 /// A machine that stands at the image's boot state, and the client's frames.
 #[derive(Drop)]
-pub struct Started {
+struct Started {
+    machine: Machine<WholeDisk>,
+    frames: Frames,
+}
+
+/// The same, and the lines of the events.
+#[derive(Drop)]
+pub struct Loaded {
     pub machine: Machine<WholeDisk>,
     pub frames: Frames,
+    pub lines: Vec<u8>,
 }
 
 /// Tests an image by loading it.
@@ -69,7 +80,7 @@ fn boot(alloc: Global, mib: u32, image: &[u8], disk: &[u8]) -> Result<Machine<Wh
 
 /// What the files make a run begin with. They are tested in this order: the image, the disk, the
 /// client stream.
-pub fn start(alloc: Global, mib: u32, inputs: &Inputs) -> Result<Started, Fault>
+fn start(alloc: Global, mib: u32, inputs: &Inputs) -> Result<Started, Fault>
     requires least { 1 ≤ mib }
     requires most { mib ≤ 64 }
     ensures ready { IfOk result (λ started. IsReady mib
@@ -79,4 +90,26 @@ pub fn start(alloc: Global, mib: u32, inputs: &Inputs) -> Result<Started, Fault>
     let machine = boot(alloc, mib, &inputs.image, &inputs.disk)?;
     let frames = read_client(alloc, &inputs.client)?;
     Ok(Started { machine, frames })
+}
+
+/// Reads the files of a run, and tests all but the lines of the events.
+pub fn load_run<S: Shelf>(alloc: Global, shelf: &mut S, words: &Run<'_>) -> Result<Loaded, Fault>
+    requires { HasRam words.now }
+    ensures loaded { IfOk result (λ loaded. IsLoaded (run_of words.now) (S.state shelf.old)
+        (S.state shelf.new) (machine_meaning loaded.machine) loaded.frames loaded.lines.items) }
+    ensures fails { IfErr result (LoadFails (run_of words.now) (S.state shelf.old)
+        (S.state shelf.new)) }
+{
+    let inputs = match read_all(alloc, shelf, words) {
+        Ok(inputs) => inputs,
+        Err(fault) => return Err(read_fault(fault)),
+    };
+    let started = start(alloc, words.mib, &inputs)?;
+    let Started { machine, frames } = started;
+    let Inputs { lines, .. } = inputs;
+    Ok(Loaded {
+        machine,
+        frames,
+        lines,
+    })
 }

@@ -14,12 +14,11 @@ ghost use Rattle.colo_top.specs.RunSteps.{WritesLast, WritesLastPart, TurnFails,
 ghost use Rattle.colo_top.specs.Schedule.{IsInLimits, frameless_turn};
 ghost use Rattle.colo_top.specs.Words.{replay_command};
 
-use crate::fault::{Fault, read_fault, write_fault};
-use crate::input::read_all;
+use crate::fault::{Fault, write_fault};
 use crate::log::{idle_text, summary};
 use crate::output::{Output, REPLAY_OUTPUTS, append_to, create_all};
-use crate::parts::{disk_of, memory_of};
-use crate::prepare::{Started, start};
+use crate::parts::{Parts, parts_of};
+use crate::prepare::{Loaded, load_run};
 use crate::schedule::{Turn, read_schedule};
 use crate::words::Run;
 use colo_base::{Frames, NoMemory, Shelf, ShelfFault};
@@ -136,8 +135,8 @@ fn run_prepared<S: Shelf, G: Guest>(
         return Err(write_fault(fault));
     }
     run_schedule(alloc, shelf, out, guest, turns)?;
-    let ram = memory_of(alloc, guest)?;
-    let disk = disk_of(alloc, guest)?;
+    let parts = parts_of(alloc, guest)?;
+    let Parts { ram, disk } = parts;
     if let Err(fault) = write_last(alloc, shelf, out, &ram, &disk) {
         return Err(write_fault(fault));
     }
@@ -154,12 +153,12 @@ pub fn replay<S: Shelf>(alloc: Global, shelf: &mut S, words: &Run<'_>) -> Result
     ensures fails { IfErr result (FailsBy (replay_command (run_of words.now))
         (S.state shelf.old) (S.state shelf.new)) }
 {
-    let inputs = match read_all(alloc, shelf, words) {
-        Ok(inputs) => inputs,
-        Err(fault) => return Err(read_fault(fault)),
-    };
-    let started = start(alloc, words.mib, &inputs)?;
-    let Started { mut machine, .. } = started;
-    let turns = read_schedule(alloc, &inputs.lines)?;
+    let loaded = load_run(alloc, shelf, words)?;
+    let Loaded {
+        mut machine,
+        lines,
+        ..
+    } = loaded;
+    let turns = read_schedule(alloc, &lines)?;
     run_prepared(alloc, shelf, words.out, &mut machine, &turns)
 }

@@ -13,7 +13,7 @@ ghost use Rattle.colo_top.specs.SoloSteps.{IsLeft, MakingFails, SingleFails};
 
 use crate::fault::{Fault, Refusal, write_fault};
 use crate::output::{Output, SOLO_OUTPUTS, append_to, create_all};
-use crate::parts::{disk_of, memory_of};
+use crate::parts::{Parts, parts_of};
 use colo_base::{Frames, NoMemory, Shelf, ShelfFault};
 use replay_log::Turn;
 use sock_link::frame_into;
@@ -83,8 +83,8 @@ fn leave<G: Guest>(
 {
     let frames_sent = make_run(alloc, machine, frames, turns)?;
     let sent = sent_text(alloc, &frames_sent)?;
-    let ram = memory_of(alloc, machine)?;
-    let disk = disk_of(alloc, machine)?;
+    let parts = parts_of(alloc, machine)?;
+    let Parts { ram, disk } = parts;
     Ok(Left {
         count: frames_sent.len(),
         sent,

@@ -9,9 +9,8 @@ ghost use Rattle.colo_top.specs.RunSteps.{FailsTest};
 ghost use Rattle.colo_top.specs.Tests.{TestSingle};
 ghost use Rattle.colo_top.specs.Words.{solo_command};
 
-use crate::fault::{Fault, Refusal, read_fault};
-use crate::input::read_all;
-use crate::prepare::{Started, start};
+use crate::fault::{Fault, Refusal};
+use crate::prepare::{Loaded, load_run};
 use crate::single_run::run_single;
 use crate::words::Run;
 use colo_base::Shelf;
@@ -49,15 +48,12 @@ pub fn solo<S: Shelf>(alloc: Global, shelf: &mut S, words: &Run<'_>) -> Result<S
     ensures fails { IfErr result (FailsBy (solo_command (run_of words.now))
         (S.state shelf.old) (S.state shelf.new)) }
 {
-    let inputs = match read_all(alloc, shelf, words) {
-        Ok(inputs) => inputs,
-        Err(fault) => return Err(read_fault(fault)),
-    };
-    let started = start(alloc, words.mib, &inputs)?;
-    let Started {
+    let loaded = load_run(alloc, shelf, words)?;
+    let Loaded {
         mut machine,
         frames,
-    } = started;
-    let turns = read_single(alloc, &inputs.lines)?;
+        lines,
+    } = loaded;
+    let turns = read_single(alloc, &lines)?;
     run_single(alloc, shelf, words.out, &mut machine, &frames, &turns)
 }

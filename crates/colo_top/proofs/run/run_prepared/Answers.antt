@@ -18,21 +18,9 @@ returns-in_err-run_schedule-clause-fails g c = λ frames.
     (prepared_fails (g.G.Guest.meaning c.args.guest.now) frames c.args.turns.now old made new c.args.out.now
     c.in_err-run_schedule.field-0.0 c.create_all.ensures.change (c.in_err-run_schedule.ensures.fails frames))
 
-pub returns-in_err-ram-clause-fails : goal.returns-in_err-ram-clause-fails
-returns-in_err-ram-clause-fails g c = λ frames.
-    let p = err_from_is_err_and c.from_residual-in_err-ram.result c.from_residual-in_err-ram.ensures.1 in
-    let old = g.S.Shelf.state c.args.shelf.now in
-    let made = g.S.Shelf.state c.create_all.new.shelf in
-    let ran = g.S.Shelf.state c.run_schedule.new.shelf in
-    rw (p.1, p.2)
-    (inr (cut_before_last (g.G.Guest.meaning c.args.guest.now) frames c.args.turns.now old ran c.args.out.now
-    (g.G.Guest.meaning c.run_schedule.new.guest) c.in_ok-run_schedule.ensures.ran
-    (writes_then c.args.out.now replay_outputs old made ran c.create_all.ensures.change c.run_schedule.ensures.change)
-    c.in_ok-run_schedule.ensures.logged))
-
-pub returns-in_err-disk-clause-fails : goal.returns-in_err-disk-clause-fails
-returns-in_err-disk-clause-fails g c = λ frames.
-    let p = err_from_is_err_and c.from_residual-in_err-disk.result c.from_residual-in_err-disk.ensures.1 in
+pub returns-in_err-parts-clause-fails : goal.returns-in_err-parts-clause-fails
+returns-in_err-parts-clause-fails g c = λ frames.
+    let p = err_from_is_err_and c.from_residual-in_err-parts.result c.from_residual-in_err-parts.ensures.1 in
     let old = g.S.Shelf.state c.args.shelf.now in
     let made = g.S.Shelf.state c.create_all.new.shelf in
     let ran = g.S.Shelf.state c.run_schedule.new.shelf in
@@ -55,7 +43,7 @@ returns-in-Err-write_last-clause-fails g c = λ frames.
     c.in_ok-run_schedule.ensures.ran
     (writes_then c.args.out.now replay_outputs old made ran c.create_all.ensures.change c.run_schedule.ensures.change)
     c.in_ok-run_schedule.ensures.logged new c.deref.result.now c.deref-2.result.now
-    (c.deref.ensures.value ∙ c.in_ok-ram.ensures) (c.deref-2.ensures.value ∙ c.in_ok-disk.ensures)
+    (c.deref.ensures.value ∙ c.in_ok-parts.ensures.ram) (c.deref-2.ensures.value ∙ c.in_ok-parts.ensures.disk)
     c.in-Err-write_last.fault c.in-Err-write_last.ensures.err (λ e. c.in-Err-write_last.ensures.cause (ap Err e)))
 
 pub returns-in_err-line-clause-fails : goal.returns-in_err-line-clause-fails
@@ -70,7 +58,7 @@ returns-in_err-line-clause-fails g c = λ frames.
     (g.G.Guest.meaning c.run_schedule.new.guest) c.in_ok-run_schedule.ensures.ran
     (writes_then c.args.out.now replay_outputs old made ran c.create_all.ensures.change c.run_schedule.ensures.change)
     c.in_ok-run_schedule.ensures.logged new c.deref.result.now c.deref-2.result.now
-    (c.deref.ensures.value ∙ c.in_ok-ram.ensures) (c.deref-2.ensures.value ∙ c.in_ok-disk.ensures)
+    (c.deref.ensures.value ∙ c.in_ok-parts.ensures.ram) (c.deref-2.ensures.value ∙ c.in_ok-parts.ensures.disk)
     c.in_default-write_last.ensures.ok))
 
 pub returns-clause-done : goal.returns-clause-done
@@ -83,5 +71,5 @@ returns-clause-done g c = λ frames.
     (g.G.Guest.meaning c.run_schedule.new.guest) c.in_ok-run_schedule.ensures.ran
     (writes_then c.args.out.now replay_outputs old made ran c.create_all.ensures.change c.run_schedule.ensures.change)
     c.in_ok-run_schedule.ensures.logged new c.deref.result.now c.deref-2.result.now
-    (c.deref.ensures.value ∙ c.in_ok-ram.ensures) (c.deref-2.ensures.value ∙ c.in_ok-disk.ensures)
+    (c.deref.ensures.value ∙ c.in_ok-parts.ensures.ram) (c.deref-2.ensures.value ∙ c.in_ok-parts.ensures.disk)
     _ c.in_ok-line.ensures c.in_default-write_last.ensures.ok
