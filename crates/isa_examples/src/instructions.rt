@@ -1,3 +1,6 @@
+//! Words and instructions both ways, with worked words from the standard's tables and from other
+//! assemblers, and an instruction that was built.
+
 use rv_isa::{Instr, decode, encode, fields};
 use std::test::Fail;
 
