@@ -1,11 +1,15 @@
 #!/usr/bin/env bash
-# Runs the built `colo` on what the stored run doesn't show: a status other than 0, a demo image, sessions with the demo servers, and
-# three C programs, of which memory or the disk is checked afterwards, and whose runs are made again by `solo`. Where a tool is missing,
-# one line says what was passed over.
+# Runs the tools that show a run, and the built `colo` on what the stored run doesn't show: a status other than 0, a demo image,
+# sessions with the demo servers, and three C programs, of which memory or the disk is checked afterwards, and whose runs are made
+# again by `solo`. Where a tool is missing, one line says what was passed over.
 # COLO names the program `colo`, if it is not the one built in crates/colo.
 set -eu
 cd "$(dirname "$0")"
 
+if command -v python3 > /dev/null; then
+    python3 look.py out-look
+    rm -rf out-look
+fi
 colo=${COLO:-../crates/colo/out/colo}
 if [ ! -x "$colo" ]; then
     echo "skipped: there is no $colo; 'rt run' in crates/colo builds it"
