@@ -86,7 +86,7 @@ def decoded(top, rows, words):
     with tempfile.TemporaryDirectory() as folder:
         crates = os.path.join(folder, "crates")
         shutil.copytree(os.path.join(top, "crates/rv_isa"), os.path.join(crates, "rv_isa"),
-                        ignore=shutil.ignore_patterns("out", "must-fail"))
+                        ignore=shutil.ignore_patterns("out", "must-fail", "edits"))
         place = os.path.join(crates, "rv_words")
         os.makedirs(os.path.join(place, "src"))
         with open(os.path.join(place, "src/main.rt"), "w") as file:
