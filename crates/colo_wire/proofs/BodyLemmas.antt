@@ -14,14 +14,15 @@ use Rattle.colo_wire.specs.Making.{number_at, tuple_in, seen_in, line_in, messag
 use Rattle.colo_wire.specs.Places.{is_zero, has_flag, width, may_stand, flags_after, follows}
 use Rattle.colo_wire.specs.declared.forms.Place.{Place}
 use Rattle.colo_wire.specs.declared.forms.Place.TheVariants.{Seen, Marked}
-use Rattle.inet_frame.specs.Bytes.{AreBytes}
+use Rattle.shared_definitions.specs.Bytes.{AreBytes}
+use Rattle.shared_definitions.proofs.ByteLemmas.{AreBytes-drop, AreBytes-take}
 use Rattle.colo_wire.specs.Spelling.{IsTuple, IsOpening, IsWaiting, IsNumber, IsPart, IsLineFront, AreLineNumbers, IsLineRest, IsInRange, tuple_bytes, seen_bytes, waiting_body, number_body, line_front, line_numbers, line_rest, body_of, kind_of}
 use Rattle.colo_wire.specs.declared.kinds.Kind.{Kind}
 use Rattle.colo_wire.specs.declared.kinds.Kind.TheVariants as kind
 use Rattle.colo_wire.specs.declared.messages.Message.{Message}
 use Rattle.colo_wire.specs.declared.messages.Message.TheVariants.{Frame, Number, Begin, State, Page, Disk, Write, Held, Line, Bytes, End, Known, Sent, Ack}
 use Rattle.colo_wire.proofs.PlaceLemmas.{first_take}
-use Rattle.colo_wire.proofs.NumberLemmas.{bytes_take, bytes_drop, wide16, wide32, wide64, number_below, number_spelled, zeros_are}
+use Rattle.colo_wire.proofs.NumberLemmas.{wide16, wide32, wide64, number_below, number_spelled, zeros_are}
 
 -- ---- what is read spells its bytes
 
@@ -123,7 +124,7 @@ waiting_spelled body fits long h =
     let places : follows (Seen ∷ Marked 1 4 ∷ Marked 1 4 ∷ Marked 1 4 ∷ []) 0 (drop 8 body) ≡ true = h in
     let seen : seen_bytes (seen_in (drop 8 body)) ++ drop 17 body ≡ drop 8 body =
     ap (λ (t : List ℕ). seen_bytes (seen_in (drop 8 body)) ++ t) (sym (drop-drop 9 8 body))
-    ∙ seen_spelled (drop 8 body) (bytes_drop 8 body fits) (omega (arith, length-drop 8 body))
+    ∙ seen_spelled (drop 8 body) (AreBytes-drop 8 body fits) (omega (arith, length-drop 8 body))
     (seen_places (drop 8 body) places) in
     joined (to_be_bytes w64 (number_at w64 0 body)) (seen_bytes (seen_in (drop 8 body)))
     (to_be_bytes w32 (number_at w32 17 body))
@@ -217,9 +218,9 @@ waiting_ranges : (body : List ℕ) → AreBytes body →
     IsWaiting (number_at w64 0 body) (seen_in (drop 8 body)) (number_at w32 17 body) (drop 21 body)
 waiting_ranges body fits = record {
   index_fits = number_below w64 (2 ^ 64) wide64 0 body fits;
-  seen_fits = seen_ranges (drop 8 body) (bytes_drop 8 body fits);
+  seen_fits = seen_ranges (drop 8 body) (AreBytes-drop 8 body fits);
   trim_fits = word_below 17 body fits;
-  frame_fits = bytes_drop 21 body fits;
+  frame_fits = AreBytes-drop 21 body fits;
 }
 
 number_ranges : (body : List ℕ) → AreBytes body →
@@ -233,14 +234,14 @@ number_ranges body fits =
     }
 
 part_ranges : (body : List ℕ) → AreBytes body → IsPart (number_at w32 0 body) (drop 4 body)
-part_ranges body fits = record { k_fits = word_below 0 body fits; bytes_fits = bytes_drop 4 body fits }
+part_ranges body fits = record { k_fits = word_below 0 body fits; bytes_fits = AreBytes-drop 4 body fits }
 
 line_ranges : (body : List ℕ) → AreBytes body → length body ≡ 43 → IsInRange (line_in body)
 unfolding line_in
 line_ranges body fits len = (
   record {
     tuple_fits = tuple_ranges body fits;
-    mac_fits = bytes_take 6 (drop 8 body) (bytes_drop 8 body fits);
+    mac_fits = AreBytes-take 6 (drop 8 body) (AreBytes-drop 8 body fits);
     mac_length = omega (arith, length-take 6 (drop 8 body), length-drop 8 body);
     flags_fits = fits 14;
   },

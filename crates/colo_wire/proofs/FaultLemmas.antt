@@ -11,7 +11,8 @@ use Rattle.colo_wire.specs.Kinds.{kind_at}
 use Rattle.colo_wire.specs.Lengths.{AllowsLength, may_begin_length}
 use Rattle.colo_wire.specs.Making.{message_in}
 use Rattle.colo_wire.specs.Places.{follows}
-use Rattle.inet_frame.specs.Bytes.{AreBytes}
+use Rattle.shared_definitions.specs.Bytes.{AreBytes}
+use Rattle.shared_definitions.proofs.ByteLemmas.{AreBytes-take}
 use Rattle.colo_wire.specs.Spelling.{body_of, kind_of, message_bytes}
 use Rattle.colo_wire.specs.declared.faults.WireFault.{WireFault}
 use Rattle.colo_wire.specs.declared.faults.WireFault.TheVariants as fault
@@ -21,7 +22,6 @@ use Rattle.colo_wire.specs.declared.messages.Message.{Message}
 use Rattle.colo_wire.proofs.BodyLemmas.{remakes}
 use Rattle.colo_wire.proofs.JudgeLemmas.{agrees_judged, chosen, err_is, message_length, more_begun, ok_is, whole_first}
 use Rattle.colo_wire.proofs.KindLemmas.{allowed_small}
-use Rattle.colo_wire.proofs.NumberLemmas.{bytes_take}
 use Rattle.colo_wire.proofs.PlaceLemmas.{take_nothing, take_swap, nothing_follows}
 
 -- ---- what goes on
@@ -255,7 +255,7 @@ length_fault : (bytes : List ℕ) → AreBytes bytes → judge bytes ≡ Err fau
 length_fault [] fits e = absurd cc
 length_fault (number ∷ rest) fits e =
     let alone = length_alone (kind_at number) rest e in (
-      good_goes (number ∷ []) (bytes_take 1 (number ∷ rest) fits) (inl alone.0),
+      good_goes (number ∷ []) (AreBytes-take 1 (number ∷ rest) fits) (inl alone.0),
       λ g. refused_stops fault.Length (number ∷ take 4 rest) (λ h. cc) alone.1 g,
     )
 
@@ -263,7 +263,7 @@ field_fault : (bytes : List ℕ) → AreBytes bytes → judge bytes ≡ Err faul
     GoesOn (take 5 bytes) × (GoesOn bytes → ⊥)
 field_fault [] fits e = absurd cc
 field_fault (number ∷ rest) fits e = (
-  good_goes (number ∷ take 4 rest) (bytes_take 5 (number ∷ rest) fits) (field_alone (kind_at number) rest e),
+  good_goes (number ∷ take 4 rest) (AreBytes-take 5 (number ∷ rest) fits) (field_alone (kind_at number) rest e),
   λ g. refused_stops fault.Field (number ∷ rest) (λ h. cc) e g,
 )
 

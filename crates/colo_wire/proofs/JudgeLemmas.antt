@@ -11,7 +11,8 @@ use Rattle.colo_wire.specs.Kinds.{kind_at, number_of_kind}
 use Rattle.colo_wire.specs.Lengths.{AllowsLength, low_of, next_length, may_begin_length}
 use Rattle.colo_wire.specs.Making.{message_in}
 use Rattle.colo_wire.specs.Places.{follows}
-use Rattle.inet_frame.specs.Bytes.{AreBytes}
+use Rattle.shared_definitions.specs.Bytes.{AreBytes}
+use Rattle.shared_definitions.proofs.ByteLemmas.{AreBytes-append, AreBytes-drop, AreBytes-take, AreBytes-zeros}
 use Rattle.colo_wire.specs.Spelling.{IsMessage, body_of, kind_of, message_bytes}
 use Rattle.colo_wire.specs.declared.faults.WireFault.{WireFault}
 use Rattle.colo_wire.specs.declared.faults.WireFault.TheVariants as fault
@@ -21,7 +22,6 @@ use Rattle.colo_wire.specs.declared.messages.Message.{Message}
 use Rattle.colo_wire.proofs.BodyLemmas.{makes}
 use Rattle.colo_wire.proofs.KindLemmas.{kind_again, kind_number, step_positive, allowed_small}
 use Rattle.colo_wire.proofs.LengthLemmas.{length_passes, length_completes, length_allowed}
-use Rattle.colo_wire.proofs.NumberLemmas.{bytes_take, bytes_drop, bytes_join, bytes_zeros}
 use Rattle.colo_wire.proofs.PlaceLemmas.{take_swap, drop_take, zeros, nothing_follows, follows_take, follows_join}
 
 -- ---- what agrees with a message is judged as it
@@ -204,7 +204,7 @@ whole_rest k rest j i fits e =
                 let len : length part ≡ 4 = omega (arith, ltb-false _ _ long.0, length-take 4 rest) in
                 let w = whole_body k n (drop 4 rest) j i long.1 in
                 let allowed = length_allowed (lengths_of k) part (step_positive k) len good.0 in
-                let back : to_be_bytes w32 n ≡ part = be_bytes_4 part n len (bytes_take 4 rest fits) refl in (
+                let back : to_be_bytes w32 n ≡ part = be_bytes_4 part n len (AreBytes-take 4 rest fits) refl in (
                   w.0,
                   subst (λ (x : ℕ). IsWhole k x rest) w.1 (record {
                     allowed = allowed;
@@ -230,7 +230,7 @@ kind_first number k n rest fits e w =
     let body = take n (drop 4 rest) in
     let len : length body ≡ n = omega (arith, w.long, length-take n (drop 4 rest), length-drop 4 rest) in
     let good =
-    spells k body (bytes_take n (drop 4 rest) (bytes_drop 4 rest fits))
+    spells k body (AreBytes-take n (drop 4 rest) (AreBytes-drop 4 rest fits))
     (subst (AllowsLength (lengths_of k)) (sym len) w.allowed) w.places in
     let parts : take 4 rest ++ body ≡ take (4 + n) rest =
     ap (λ (x : List ℕ). x ++ body) (sym (take-take 4 (4 + n) rest (omega arith)))
@@ -285,7 +285,7 @@ begun_body number k n part fits e allowed h within =
     let body = part ++ z in
     let len : length body ≡ n = omega (arith, length-append part z, length-replicate {A = ℕ} (n - length part) 0) in
     let good =
-    spells k body (bytes_join part z fits (bytes_zeros (n - length part)))
+    spells k body (AreBytes-append part z fits (AreBytes-zeros (n - length part)))
     (subst (AllowsLength (lengths_of k)) (sym len) allowed)
     (follows_join (places_of k) 0 part z (zeros (n - length part)) h) in (
       message_in k body,
@@ -379,11 +379,11 @@ more_rest number k rest fits same e =
                 let b = more_body k n (drop 4 rest) long.1 in
                 let all : take n (drop 4 rest) ≡ drop 4 rest = take_all n (drop 4 rest) (omega (arith, b.0)) in
                 let allowed = length_allowed (lengths_of k) part (step_positive k) len good.0 in
-                let back : to_be_bytes w32 n ≡ part = be_bytes_4 part n len (bytes_take 4 rest fits) refl in
+                let back : to_be_bytes w32 n ≡ part = be_bytes_4 part n len (AreBytes-take 4 rest fits) refl in
                 let whole : to_be_bytes w32 n ++ drop 4 rest ≡ rest =
                 ap (λ (x : List ℕ). x ++ drop 4 rest) back ∙ take-append-drop 4 rest in
                 subst (λ (x : List ℕ). (m : Message) × IsBegun m (number ∷ x)) whole
-                (body_begun number k n (drop 4 rest) (bytes_drop 4 rest fits) same allowed
+                (body_begun number k n (drop 4 rest) (AreBytes-drop 4 rest fits) same allowed
                 (ap (follows (places_of k) 0) (sym all) ∙ b.1) b.0)
           ]
       | inr bad ↦ absurd cc

@@ -5,7 +5,7 @@ use Rattle.std.proofs.lemmas.Bool.{and_parts, and_from, leb-true, le-leb}
 use Rattle.std.proofs.lemmas.List.{append-nil}
 use Rattle.std.proofs.lemmas.Nat.{mul-le, div-add-mod', div_below, mod_below, mod-mul-add, from_be_bytes-to_be_bytes_4}
 use Rattle.colo_wire.specs.Lengths.{AllowsLength, low_of, high_of, next_length, may_begin_length}
-use Rattle.inet_frame.specs.Bytes.{AreBytes}
+use Rattle.shared_definitions.specs.Bytes.{AreBytes}
 use Rattle.colo_wire.specs.declared.forms.Lengths.{Lengths}
 
 -- ---- the next length

@@ -1,34 +1,13 @@
 -- A number that is read is spelled by the bytes that it was read from, and what is spelled is read again.
-use Rattle.std.proofs.Common.{◌≡◌, ℕ, zero, suc, ◌+◌, ◌-◌, ◌^◌, ◌<◌, ◌≤◌, true, eqb, List, [], ◌∷◌, ◌++◌, length, take, drop, replicate, refl, sym, ap, ◌∙◌, inl, inr, arith}
+use Rattle.std.proofs.Common.{◌≡◌, ℕ, ◌+◌, ◌^◌, ◌<◌, ◌≤◌, true, eqb, List, [], ◌∷◌, ◌++◌, length, take, drop, replicate, refl, sym, ap, ◌∙◌, arith}
 use Rattle.std.specs.Int.{Width, w16, w32, w64, byte_len, from_be_bytes, to_be_bytes}
-use Rattle.std.proofs.lemmas.Bool.{and_parts, cases_lt, eqb-true}
-use Rattle.std.proofs.lemmas.List.{take-append-drop, drop-drop, length-take, length-drop, get_or-drop, get_or-take, get_or_past, get_or_append_left, get_or-append_right}
+use Rattle.std.proofs.lemmas.Bool.{and_parts, eqb-true}
+use Rattle.std.proofs.lemmas.List.{take-append-drop, drop-drop, length-take, length-drop}
 use Rattle.std.proofs.lemmas.Nat.{be_bytes_2, be_bytes_4, be_bytes_8}
 use Rattle.colo_wire.specs.Making.{number_at}
 use Rattle.colo_wire.specs.Places.{is_zero}
-use Rattle.inet_frame.specs.Bytes.{AreBytes}
-
-pub bytes_drop : (n : ℕ) (bytes : List ℕ) → AreBytes bytes → AreBytes (drop n bytes)
-bytes_drop n bytes h i = rw get_or-drop (h (n + i))
-
-pub bytes_take : (n : ℕ) (bytes : List ℕ) → AreBytes bytes → AreBytes (take n bytes)
-bytes_take n bytes h i =
-    elim (cases_lt i n) [
-      | inl lt ↦ rw (get_or-take n bytes i 0 lt) (h i)
-      | inr le ↦ rw (get_or_past (take n bytes) i 0 (omega (arith, length-take n bytes))) (omega arith)
-    ]
-
-pub bytes_join : (a b : List ℕ) → AreBytes a → AreBytes b → AreBytes (a ++ b)
-bytes_join a b h k i =
-    elim (cases_lt i (length a)) [
-      | inl lt ↦ rw (get_or_append_left a b 0 i lt) (h i)
-      | inr le ↦ rw (get_or-append_right a b (length a) i 0 refl le) (k (i - length a))
-    ]
-
-pub bytes_zeros : (n : ℕ) → AreBytes (replicate n 0)
-bytes_zeros zero i = omega arith
-bytes_zeros (suc n) zero = omega arith
-bytes_zeros (suc n) (suc i) = bytes_zeros n i
+use Rattle.shared_definitions.specs.Bytes.{AreBytes}
+use Rattle.shared_definitions.proofs.ByteLemmas.{AreBytes-drop, AreBytes-take}
 
 -- a width of numbers, with its laws
 pub record IsWide (w : Width) (limit : ℕ) : Type 0 where
@@ -58,7 +37,7 @@ pub number_below : (w : Width) (limit : ℕ) → IsWide w limit → (at : ℕ) (
     number_at w at body < limit
 unfolding number_at
 number_below w limit wide at body fits =
-    wide.below (take (byte_len w) (drop at body)) (bytes_take (byte_len w) (drop at body) (bytes_drop at body fits))
+    wide.below (take (byte_len w) (drop at body)) (AreBytes-take (byte_len w) (drop at body) (AreBytes-drop at body fits))
 
 -- the number at a place spells its bytes
 pub number_spelled : (w : Width) (limit : ℕ) → IsWide w limit → (at end : ℕ) (body : List ℕ) → at + byte_len w ≡ end →
@@ -70,7 +49,7 @@ number_spelled w limit wide at end body e fits long =
     let len : length (take (byte_len w) rest) ≡ byte_len w =
     omega (arith, length-take (byte_len w) rest, length-drop at body) in
     let front : to_be_bytes w (from_be_bytes w (take (byte_len w) rest)) ≡ take (byte_len w) rest =
-    wide.back (take (byte_len w) rest) len (bytes_take (byte_len w) rest (bytes_drop at body fits)) in
+    wide.back (take (byte_len w) rest) len (AreBytes-take (byte_len w) rest (AreBytes-drop at body fits)) in
     let back : drop end body ≡ drop (byte_len w) rest = ap (λ (k : ℕ). drop k body) (sym e)
     ∙ sym (drop-drop (byte_len w) at body) in
     ap (λ (x : List ℕ). x ++ drop end body) front ∙ ap (λ (x : List ℕ). take (byte_len w) rest ++ x) back

@@ -3,7 +3,7 @@
 -- notations).
 use Rattle.std.specs.Prelude.{◌≡◌, ℕ, ◌<◌, ◌^◌, true, IfSome, List, [], ◌∷◌, ◌++◌, length, Option, Some, None}
 use Rattle.std.specs.Int.{w16, w32, w64, to_be_bytes}
-use Rattle.inet_frame.specs.Bytes.{AreBytes}
+use Rattle.shared_definitions.specs.Bytes.{AreBytes}
 use Rattle.inet_frame.specs.declared.tuple.Tuple.{Tuple}
 use Rattle.tcp_track.specs.declared.openings.Opening.{Opening}
 use Rattle.colo_wire.specs.Forms.{lengths_of, places_of}

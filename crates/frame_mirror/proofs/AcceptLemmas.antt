@@ -1,6 +1,6 @@
 -- What is kept of an accepted frame.
 use Rattle.std.proofs.Common.{◌≡◌, ℕ, ◌==◌, Bool, true, false, cond, List, length, Option, None, Some, refl, sym, ap, subst, ◌∙◌, arith}
-use Rattle.inet_frame.specs.Bytes.{AreBytes}
+use Rattle.shared_definitions.specs.Bytes.{AreBytes}
 use Rattle.inet_frame.specs.Arp.{reply_bytes}
 use Rattle.inet_frame.specs.Counted.{tcp_in, tcp_of, client_tuple_of, guest_address, guest_mac}
 use Rattle.inet_frame.specs.Fields.{TcpFields}

@@ -4,16 +4,16 @@ use Rattle.std.proofs.lemmas.Bool.{and_right, cases_Bool}
 use Rattle.std.proofs.lemmas.List.{take-append-drop}
 use Rattle.std.specs.List.{slice_range}
 use borrow.Rule.Slice.PartMut.{put_mid}
-use Rattle.inet_frame.specs.Bytes.{AreBytes}
+use Rattle.shared_definitions.specs.Bytes.{AreBytes}
 use Rattle.inet_frame.specs.Counted.{tcp_in}
 use Rattle.inet_frame.specs.Fields.{TcpFields}
 use Rattle.inet_frame.specs.Flags.{has_syn}
 use Rattle.inet_frame.specs.Frame.{IsSegment, fields_in}
 use Rattle.inet_frame.specs.Place.{be32_at, header_end, datagram_end, data_offset}
-use Rattle.inet_frame.proofs.ByteLemmas.{AreBytes-range}
+use Rattle.shared_definitions.proofs.ByteLemmas.{AreBytes-overwrite, AreBytes-range}
 use Rattle.inet_frame.proofs.FrameLemmas.{tcp_in_segment}
 use Rattle.inet_build.proofs.OptionLemmas.{length-clean_options, clean_is_clean, clean_same, AreBytes-clean_options}
-use Rattle.inet_build.proofs.EditLemmas.{Edited, places, same_fields, checksum_keeps, edited_segment, edited_fields, same_header_end, checksum_before, checksum_after, AreBytes-overwrite, AreBytes-update_checksum}
+use Rattle.inet_build.proofs.EditLemmas.{Edited, places, same_fields, checksum_keeps, edited_segment, edited_fields, same_header_end, checksum_before, checksum_after, AreBytes-update_checksum}
 use Rattle.shared_definitions.specs.Overwrite.{overwrite}
 use Rattle.shared_definitions.proofs.OverwriteLemmas.{length-overwrite, overwrite_before, overwrite_after, overwrite_range}
 use Rattle.shared_definitions.proofs.RangeLemmas.{range_same, length-range}

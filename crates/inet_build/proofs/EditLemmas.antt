@@ -1,27 +1,22 @@
 -- An edited segment is a segment, with all else as it was.
-use Rattle.std.proofs.Common.{◌≡◌, ℕ, ◌+◌, ◌-◌, ◌*◌, ◌/◌, ◌%◌, ◌^◌, ◌<◌, ◌≤◌, List, [], ◌∷◌, ◌++◌, length, take, drop, get_or, Some, refl, ap, sym, ◌∙◌, arith, ⊎_elim}
+use Rattle.std.proofs.Common.{◌≡◌, ℕ, ◌+◌, ◌-◌, ◌*◌, ◌/◌, ◌%◌, ◌^◌, ◌<◌, ◌≤◌, List, [], ◌∷◌, ◌++◌, length, get_or, Some, refl, ap, sym, ◌∙◌, arith, ⊎_elim}
 use Rattle.std.proofs.lemmas.Bool.{cases_lt}
 use Rattle.std.proofs.lemmas.List.{ext_get_or}
 use Rattle.std.specs.Int.{w16, w32, to_be_bytes}
 use Rattle.std.specs.List.{slice_range}
-use Rattle.inet_frame.specs.Bytes.{AreBytes}
+use Rattle.shared_definitions.specs.Bytes.{AreBytes}
 use Rattle.inet_frame.specs.Counted.{tcp_in}
 use Rattle.inet_frame.specs.Fields.{TcpFields, tcp_fields}
 use Rattle.inet_frame.specs.Frame.{IsDatagram, IsSegment, fields_in}
 use Rattle.inet_frame.specs.Place.{be16_at, be32_at, header_end, datagram_end, data_offset}
 use Rattle.inet_frame.specs.Sum.{ones_sum, ones_add, pseudo_sum}
-use Rattle.inet_frame.proofs.ByteLemmas.{bytes_from, AreBytes-append, AreBytes-drop, AreBytes-take, AreBytes-range}
+use Rattle.shared_definitions.proofs.ByteLemmas.{bytes_from, AreBytes-overwrite, AreBytes-range, two_bytes, four_bytes}
 use Rattle.inet_frame.proofs.SumLemmas.{ones_sum_fits, ones_add_fits, ones_sum_append, ones_sum_closed}
 use Rattle.inet_frame.proofs.FrameLemmas.{tcp_in_segment}
 use Rattle.shared_definitions.specs.Overwrite.{overwrite}
 use Rattle.shared_definitions.proofs.OverwriteLemmas.{length-overwrite, overwrite_before, overwrite_within, overwrite_after, overwrite_range, overwrite_twice}
 use Rattle.shared_definitions.proofs.RangeLemmas.{range_same, range_split, length-range}
 use Rattle.inet_build.specs.Edit.{sum_between, with_zero_checksum, update_checksum, shift_ack, shift_ack_fields}
-
--- a fact of one byte, and those of the bytes after it
-infixr 5 ◌&◌
-pub ◌&◌ : {A B : Type 0} → A → B → A × B
-a & b = (a, b)
 
 -- what an edit after the sequence number leaves: the length, each byte up to there, and the header's length
 pub record KeepsPlaces (b c : List ℕ) : Type 0 where
@@ -106,21 +101,6 @@ kept_segment b c s k sum =
       sum_is = ap (λ (p : ℕ). F p (header_end c) (datagram_end c)) d.protocol_is
           ∙ (ap (λ (h : ℕ). F 6 h (datagram_end c)) he ∙ (ap (λ (e : ℕ). F 6 (header_end b) e) de ∙ sum));
     }
-
-pub AreBytes-overwrite : (b : List ℕ) (at : ℕ) (part : List ℕ) → AreBytes b → AreBytes part →
-    AreBytes (overwrite b at part)
-unfolding overwrite
-AreBytes-overwrite b at part whole written =
-    AreBytes-append (take at b ++ part) (drop (at + length part) b)
-    (AreBytes-append (take at b) part (AreBytes-take at b whole) written) (AreBytes-drop (at + length part) b whole)
-
-pub two_bytes : (n : ℕ) → AreBytes (to_be_bytes w16 n)
-two_bytes n = bytes_from (n / 256 % 256 ∷ n % 256 ∷ []) (omega arith, (omega arith, tt))
-
-pub four_bytes : (n : ℕ) → AreBytes (to_be_bytes w32 n)
-four_bytes n =
-    bytes_from (n / 256 ^ 3 % 256 ∷ n / 256 ^ 2 % 256 ∷ n / 256 ^ 1 % 256 ∷ n % 256 ∷ [])
-    ((omega arith) & (omega arith) & (omega arith) & (omega arith) & tt)
 
 pub AreBytes-update_checksum : (b : List ℕ) (h e : ℕ) → AreBytes b → AreBytes (update_checksum b h e)
 unfolding update_checksum

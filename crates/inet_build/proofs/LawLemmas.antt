@@ -3,14 +3,15 @@ use Rattle.std.proofs.Common.{◌≡◌, ℕ, List, ◌++◌, length, Some, ap, 
 use Rattle.std.specs.Int.{w32, to_be_bytes}
 use Rattle.std.specs.List.{slice_range}
 use Rattle.inet_frame.specs.Arp.{reply_head, reply_bytes}
-use Rattle.inet_frame.specs.Bytes.{AreBytes}
+use Rattle.shared_definitions.specs.Bytes.{AreBytes}
 use Rattle.inet_frame.specs.Counted.{tcp_in, guest_mac}
 use Rattle.inet_frame.specs.Fields.{TcpFields, arp_fields}
 use Rattle.inet_frame.specs.Place.{be32_at}
-use Rattle.inet_frame.proofs.ByteLemmas.{bytes_from, AreBytes-append, AreBytes-range}
+use Rattle.shared_definitions.proofs.ByteLemmas.{bytes_from, four_bytes, AreBytes-append, AreBytes-range}
+use Rattle.shared_definitions.proofs.FactLemmas.{◌&◌}
 use Rattle.inet_frame.proofs.FrameLemmas.{tcp_in_facts}
 use Rattle.inet_build.proofs.CleanLemmas.{clean_syn_parses, length-clean_syn}
-use Rattle.inet_build.proofs.EditLemmas.{◌&◌, shift_ack_parses, length-shift_ack, four_bytes}
+use Rattle.inet_build.proofs.EditLemmas.{shift_ack_parses, length-shift_ack}
 use Rattle.inet_build.specs.Edit.{shift_ack, clean_syn, shift_ack_fields, clean_syn_fields}
 
 pub clean_keeps : (b : List ℕ) (t : TcpFields) → AreBytes b → tcp_in b ≡ Some t →

@@ -7,10 +7,10 @@ use Rattle.std.proofs.lemmas.Slice.{take-put_mid, drop-put_mid}
 use borrow.Rule.Slice.PartMut.{put_mid}
 use Rattle.std.specs.List.{concat, flat_map, list_any}
 use Rattle.std.specs.Prelude.{replicate}
-use Rattle.inet_frame.specs.Bytes.{AreBytes}
+use Rattle.shared_definitions.specs.Bytes.{AreBytes}
 use Rattle.inet_frame.specs.Options.{option_len, options_of}
 use Rattle.inet_frame.proofs.OptionLemmas.{option_len_le, options_of_none, options_of_more}
-use Rattle.inet_frame.proofs.ByteLemmas.{AreBytes-cons, AreBytes-append, AreBytes-take, AreBytes-drop}
+use Rattle.shared_definitions.proofs.ByteLemmas.{AreBytes-cons, AreBytes-append, AreBytes-take, AreBytes-drop}
 use Rattle.inet_build.specs.Options.{is_unwanted, clean_option, has_unwanted, clean_options}
 
 pub unwanted_none : (xs : List ℕ) → option_len xs ≡ 0 → has_unwanted xs ≡ false

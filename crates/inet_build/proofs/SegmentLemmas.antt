@@ -3,17 +3,17 @@ use Rattle.std.proofs.Common.{◌≡◌, ℕ, ◌+◌, ◌-◌, ◌*◌, ◌/◌
 use Rattle.std.proofs.lemmas.List.{take_at, drop_at, take_all, drop-drop}
 use Rattle.std.specs.Int.{w16, w32, to_be_bytes}
 use Rattle.std.specs.List.{slice_range}
-use Rattle.inet_frame.specs.Bytes.{AreBytes}
+use Rattle.shared_definitions.specs.Bytes.{AreBytes}
 use Rattle.inet_frame.specs.Counted.{guest_mac, tcp_in}
 use Rattle.inet_frame.specs.Fields.{TcpFields}
 use Rattle.inet_frame.specs.Frame.{IsSegment, fields_in}
 use Rattle.inet_frame.specs.Place.{be16_at, be32_at, datagram_end, data_offset}
 use Rattle.inet_frame.specs.Sum.{ones_sum, ones_add, pseudo_sum}
-use Rattle.inet_frame.proofs.ByteLemmas.{EachByte, bytes_from, AreBytes-append}
+use Rattle.shared_definitions.proofs.ByteLemmas.{EachByte, bytes_from, two_bytes, AreBytes-append}
+use Rattle.shared_definitions.proofs.FactLemmas.{◌&◌}
 use Rattle.inet_frame.proofs.FieldLemmas.{six_then}
 use Rattle.inet_frame.proofs.SumLemmas.{ones_sum_fits, ones_add_fits, ones_sum_closed}
 use Rattle.inet_frame.proofs.FrameLemmas.{tcp_in_segment}
-use Rattle.inet_build.proofs.EditLemmas.{◌&◌, two_bytes}
 use Rattle.inet_build.specs.Segment.{ipv4_type, ethernet_header, addresses, ipv4_header, ipv4_checksum, mss_option, header_words, tcp_header, tcp_bytes, tcp_len, tcp_checksum, segment_bytes, fields_of, MssFits, HeaderFits, IsBuildable}
 use Rattle.inet_build.specs.declared.fields.Segment.{Segment}
 

@@ -1,7 +1,7 @@
 -- What holds of frames that are built or edited, also where no call has one in hand.
 use Rattle.std.specs.Prelude.{◌≡◌, ℕ, List, length, Some}
 use Rattle.inet_frame.specs.Arp.{reply_bytes}
-use Rattle.inet_frame.specs.Bytes.{AreBytes}
+use Rattle.shared_definitions.specs.Bytes.{AreBytes}
 use Rattle.inet_frame.specs.Counted.{tcp_in, guest_mac}
 use Rattle.inet_frame.specs.Fields.{TcpFields, arp_fields}
 use Rattle.inet_build.specs.Edit.{shift_ack, clean_syn, shift_ack_fields, clean_syn_fields}

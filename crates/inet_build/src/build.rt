@@ -1,7 +1,7 @@
 //! A TCP segment of the guest, put together from its fields and its payload.
 
 ghost use Rattle.std.specs.Prelude.{◌≡◌, ◌+◌, ◌^◌, ◌<◌, ◌≤◌, ◌++◌, length, IfOk, OnOk, Some};
-ghost use Rattle.inet_frame.specs.Bytes.{AreBytes};
+ghost use Rattle.shared_definitions.specs.Bytes.{AreBytes};
 ghost use Rattle.inet_frame.specs.Counted.{tcp_in};
 ghost use Rattle.inet_frame.specs.Sum.{ones_sum};
 ghost use Rattle.inet_build.specs.Segment.{ethernet_header, addresses, ipv4_header, ipv4_checksum, mss_option, header_words, tcp_header, tcp_len, tcp_checksum, segment_bytes, fields_of, MssFits, HeaderFits, IsBuildable};

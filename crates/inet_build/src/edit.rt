@@ -3,7 +3,7 @@
 ghost use Rattle.std.specs.Prelude.{◌≡◌, ℕ, ◌+◌, ◌≤◌, length, IsSome};
 ghost use Rattle.std.specs.Option.{option_map};
 ghost use Rattle.shared_definitions.specs.Overwrite.{overwrite};
-ghost use Rattle.inet_frame.specs.Bytes.{AreBytes};
+ghost use Rattle.shared_definitions.specs.Bytes.{AreBytes};
 ghost use Rattle.inet_frame.specs.Counted.{tcp_in};
 ghost use Rattle.inet_frame.specs.Frame.{IsSegment};
 ghost use Rattle.inet_frame.specs.Place.{header_end, datagram_end};

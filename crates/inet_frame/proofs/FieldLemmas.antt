@@ -2,13 +2,13 @@
 use Rattle.std.proofs.Common.{◌≡◌, ℕ, ◌+◌, ◌^◌, ◌<◌, ◌≤◌, List, [], ◌∷◌, length, Some, None, refl, arith, subst}
 use Rattle.shared_definitions.proofs.RangeLemmas.{length-range}
 use Rattle.inet_frame.specs.Arp.{reply_bytes}
-use Rattle.inet_frame.specs.Bytes.{AreBytes}
+use Rattle.shared_definitions.specs.Bytes.{AreBytes}
 use Rattle.inet_frame.specs.Counted.{tcp_in}
 use Rattle.inet_frame.specs.Fields.{TcpFields, ArpFields}
 use Rattle.inet_frame.specs.Frame.{IsSegment, fields_in, seen_of}
 use Rattle.inet_frame.specs.Laws.{AreInRange}
 use Rattle.inet_frame.specs.Place.{header_end, datagram_end, data_offset, be16_at, be32_at}
-use Rattle.inet_frame.proofs.ByteLemmas.{AreBytes-range}
+use Rattle.shared_definitions.proofs.ByteLemmas.{AreBytes-range}
 use Rattle.inet_frame.proofs.FrameLemmas.{tcp_in_facts}
 
 be16_fits : (b : List ℕ) (i : ℕ) → AreBytes b → be16_at b i < 2 ^ 16

@@ -1,4 +1,3 @@
-pub mod ByteLemmas
 pub mod FieldLemmas
 pub mod FrameLemmas
 pub mod OptionLemmas

@@ -2,11 +2,9 @@
 use Rattle.std.proofs.Common.{◌≡◌, ℕ, ◌+◌, ◌-◌, ◌*◌, ◌<◌, zero, suc, List, [], ◌∷◌, ◌++◌, length, refl, ap, ◌∙◌, arith}
 use Rattle.std.proofs.lemmas.Bool.Decides.{nat_tests}
 use Rattle.std.specs.List.{fold}
-use Rattle.inet_frame.specs.Bytes.{AreBytes}
+use Rattle.shared_definitions.specs.Bytes.{AreBytes}
+use Rattle.shared_definitions.proofs.ByteLemmas.{AreBytes-tail}
 use Rattle.inet_frame.specs.Sum.{ones_add, ones_sum, words}
-
-AreBytes_tail : (x : ℕ) (xs : List ℕ) → AreBytes (x ∷ xs) → AreBytes xs
-AreBytes_tail x xs h = λ k. h (suc k)
 
 -- each number of the list is a word of 16 bits
 abbrev Words : List ℕ → Type 0
@@ -18,7 +16,7 @@ words_fit [] h = tt
 words_fit (x ∷ []) h = let hx = h 0 in (omega arith, tt)
 words_fit (x ∷ y ∷ xs) h = let hx = h 0 in let hy = h 1 in (
   omega arith,
-  words_fit xs (AreBytes_tail y xs (AreBytes_tail x (y ∷ xs) h)),
+  words_fit xs (AreBytes-tail y xs (AreBytes-tail x (y ∷ xs) h)),
 )
 
 pub ones_add_fits : (a b : ℕ) → a < 65536 → b < 65536 → ones_add a b < 65536

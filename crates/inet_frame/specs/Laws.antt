@@ -1,7 +1,7 @@
 -- What holds of any frame, also of one that no call has in hand.
 use Rattle.std.specs.Prelude.{◌≡◌, ℕ, ◌^◌, ◌<◌, ◌≤◌, List, length, Some, None}
 use Rattle.inet_frame.specs.Arp.{reply_bytes}
-use Rattle.inet_frame.specs.Bytes.{AreBytes}
+use Rattle.shared_definitions.specs.Bytes.{AreBytes}
 use Rattle.inet_frame.specs.Counted.{tcp_in}
 use Rattle.inet_frame.specs.Fields.{TcpFields, ArpFields}
 

@@ -1,5 +1,4 @@
 pub mod Arp
-pub mod Bytes
 pub mod Counted
 pub mod Fields
 pub mod Flags

@@ -17,7 +17,9 @@ use Rattle.machine_bytes.specs.Laws.{ReadsBack, AreAccepted, AreLegalFields, Wri
 use Rattle.machine_bytes.specs.Legal.{IsInRange, IsLegal, AreCsrsInRange, IsQueueInRange, IsDeviceInRange}
 use Rattle.machine_bytes.specs.Reading.{number_at, is_flag, words_of, csrs_of, queue_of, device_of, fields_in, has_flags, has_legal_csrs, has_legal_fields, accepts}
 use Rattle.machine_bytes.specs.Spelling.{flag_number, words_bytes, csr_bytes, reservation_bytes, queue_bytes, register_bytes, network_bytes, block_bytes, bytes_of}
-use Rattle.machine_bytes.proofs.NumberLemmas.{AreBytes, AreBytes-part, AreBytes-drop, read_4, read_small_flag, written_4, written_small_flag}
+use Rattle.shared_definitions.specs.Bytes.{AreBytes}
+use Rattle.shared_definitions.proofs.ByteLemmas.{AreBytes-part, AreBytes-drop}
+use Rattle.machine_bytes.proofs.NumberLemmas.{read_4, read_small_flag, written_4, written_small_flag}
 use Rattle.machine_bytes.proofs.ReadLemmas.{words_read, length-words_bytes, csrs_read, queue_read, device_read, next}
 use Rattle.machine_bytes.proofs.WriteLemmas.{more, words_written, csrs_written, queue_written, registers_written}
 use Rattle.machine_bytes.specs.declared.fields.StateFields.{StateFields}
@@ -260,7 +262,7 @@ words_in_range : (n : ℕ) (b : List ℕ) → AreBytes b → (k : ℕ) → slice
 unfolding words_of
 words_in_range zero b h k = omega arith
 words_in_range (suc n) b h zero = big_from-lt 0 4 b h
-words_in_range (suc n) b h (suc k) = words_in_range n (drop 4 b) (AreBytes-drop b 4 h) k
+words_in_range (suc n) b h (suc k) = words_in_range n (drop 4 b) (AreBytes-drop 4 b h) k
 
 length-words_of : (n : ℕ) (b : List ℕ) → length (words_of n b) ≡ n
 unfolding words_of
@@ -270,7 +272,7 @@ length-words_of (suc n) b = ap suc (length-words_of n (drop 4 b))
 csrs_in_range : (b : List ℕ) → AreBytes b → AreCsrsInRange (csrs_of b)
 unfolding csrs_of
 csrs_in_range b h =
-    let at : (n k : ℕ) → number_at n b k < 256 ^ n = λ n k. big_from-lt 0 n (drop k b) (AreBytes-drop b k h) in
+    let at : (n k : ℕ) → number_at n b k < 256 ^ n = λ n k. big_from-lt 0 n (drop k b) (AreBytes-drop k b h) in
     record {
       mstatus = at 4 0;
       mie = at 4 4;
@@ -287,13 +289,13 @@ csrs_in_range b h =
 queue_in_range : (b : List ℕ) → AreBytes b → IsQueueInRange (queue_of b)
 unfolding queue_of
 queue_in_range b h =
-    let at : (n k : ℕ) → number_at n b k < 256 ^ n = λ n k. big_from-lt 0 n (drop k b) (AreBytes-drop b k h) in
+    let at : (n k : ℕ) → number_at n b k < 256 ^ n = λ n k. big_from-lt 0 n (drop k b) (AreBytes-drop k b h) in
     record { num = at 4 0; desc = at 8 8; driver = at 8 16; device = at 8 24; next = at 2 32; used = at 2 34 }
 
 device_in_range : (b : List ℕ) (p q : QueueFields) → AreBytes b → IsDeviceInRange (device_of b p q)
 unfolding device_of
 device_in_range b p q h =
-    let at : (n k : ℕ) → number_at n b k < 256 ^ n = λ n k. big_from-lt 0 n (drop k b) (AreBytes-drop b k h) in
+    let at : (n k : ℕ) → number_at n b k < 256 ^ n = λ n k. big_from-lt 0 n (drop k b) (AreBytes-drop k b h) in
     record {
       status = at 4 0;
       device_features_sel = at 4 4;
@@ -306,23 +308,23 @@ device_in_range b p q h =
 pub fields_in_range : (b : List ℕ) → AreBytes b → length b ≡ 359 → IsInRange (fields_in b)
 unfolding fields_in device_of
 fields_in_range b h l =
-    let at : (n k : ℕ) → number_at n b k < 256 ^ n = λ n k. big_from-lt 0 n (drop k b) (AreBytes-drop b k h) in
-    let queue : (k : ℕ) → IsQueueInRange (queue_of (drop k b)) = λ k. queue_in_range (drop k b) (AreBytes-drop b k h) in
+    let at : (n k : ℕ) → number_at n b k < 256 ^ n = λ n k. big_from-lt 0 n (drop k b) (AreBytes-drop k b h) in
+    let queue : (k : ℕ) → IsQueueInRange (queue_of (drop k b)) = λ k. queue_in_range (drop k b) (AreBytes-drop k b h) in
     record {
       hart = record {
         pc = at 4 0;
         count = length-words_of 31 (drop 4 b);
-        x = words_in_range 31 (drop 4 b) (AreBytes-drop b 4 h);
+        x = words_in_range 31 (drop 4 b) (AreBytes-drop 4 b h);
         address = at 4 185;
       };
-      csrs = csrs_in_range (drop 128 b) (AreBytes-drop b 128 h);
-      net = device_in_range (drop 189 b) (queue_of (drop 217 b)) (queue_of (drop 253 b)) (AreBytes-drop b 189 h);
+      csrs = csrs_in_range (drop 128 b) (AreBytes-drop 128 b h);
+      net = device_in_range (drop 189 b) (queue_of (drop 217 b)) (queue_of (drop 253 b)) (AreBytes-drop 189 b h);
       net_queues = refl;
       receives = queue 217;
       sends = queue 253;
       count = length-take-le 6 (drop 289 b) (omega (arith, length-drop 289 b));
       neighbour = AreBytes-part b 6 289 h;
-      block = device_in_range (drop 295 b) (queue_of (drop 323 b)) no_queue (AreBytes-drop b 295 h);
+      block = device_in_range (drop 295 b) (queue_of (drop 323 b)) no_queue (AreBytes-drop 295 b h);
       block_queues = refl;
       serves = queue 323;
     }
@@ -360,7 +362,7 @@ queue_part : (b : List ℕ) (at k : ℕ) → AreBytes b → at + k + 36 ≤ leng
     (at + k + 4)) ≡ true →
     queue_bytes (queue_of (drop (at + k) b)) ≡ take 36 (drop k (drop at b))
 queue_part b at k h l flag =
-    queue_written (drop (at + k) b) (AreBytes-drop b (at + k) h) (omega (arith, length-drop (at + k) b)) (again b
+    queue_written (drop (at + k) b) (AreBytes-drop (at + k) b h) (omega (arith, length-drop (at + k) b)) (again b
     (at + k) 4 flag)
     ∙ ap (take 36) (sym (drop-drop k at b))
 
@@ -369,7 +371,7 @@ network_written : (b : List ℕ) → AreBytes b → length b ≡ 359 → HasFlag
 unfolding network_bytes fields_in device_of
 network_written b h l f =
     more (drop 189 b) _ _ 64 36 (more (drop 189 b) _ _ 28 36
-    (registers_written (drop 189 b) (queue_of (drop 217 b)) (queue_of (drop 253 b)) (AreBytes-drop b 189 h) (omega
+    (registers_written (drop 189 b) (queue_of (drop 217 b)) (queue_of (drop 253 b)) (AreBytes-drop 189 b h) (omega
     (arith, length-drop 189 b)))
     (queue_part b 189 28 h (omega arith) f.first))
     (queue_part b 189 64 h (omega arith) f.second)
@@ -379,7 +381,7 @@ block_written : (b : List ℕ) → AreBytes b → length b ≡ 359 → HasFlags 
 unfolding block_bytes fields_in device_of
 block_written b h l f =
     more (drop 295 b) _ _ 28 36
-    (registers_written (drop 295 b) (queue_of (drop 323 b)) no_queue (AreBytes-drop b 295 h) (omega
+    (registers_written (drop 295 b) (queue_of (drop 323 b)) no_queue (AreBytes-drop 295 b h) (omega
     (arith, length-drop 295 b)))
     (queue_part b 295 28 h (omega arith) f.third)
 
@@ -395,8 +397,8 @@ unfolding bytes_of fields_in
 written b h l f =
     more b _ _ 295 64 (more b _ _ 289 6 (more b _ _ 189 100 (more b _ _ 184 5 (more b _ _ 128 56 (more b _ _ 4 124
     (written_4 b 0 h (omega arith))
-    (words_written 31 (drop 4 b) (AreBytes-drop b 4 h) (omega (arith, length-drop 4 b))))
-    (csrs_written (drop 128 b) (AreBytes-drop b 128 h) (omega (arith, length-drop 128 b)) (again b 128 28 f.msip)))
+    (words_written 31 (drop 4 b) (AreBytes-drop 4 b h) (omega (arith, length-drop 4 b))))
+    (csrs_written (drop 128 b) (AreBytes-drop 128 b h) (omega (arith, length-drop 128 b)) (again b 128 28 f.msip)))
     (reservation_written b h l f))
     (network_written b h l f))
     refl)

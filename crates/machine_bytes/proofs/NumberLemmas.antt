@@ -2,16 +2,14 @@
 use Rattle.std.proofs.Common.{◌≡◌, ℕ, ◌+◌, ◌<◌, ◌≤◌, ◌^◌, Bool, true, false, List, [], ◌∷◌, length, take, drop, get_or, refl, ap, sym, ◌∙◌, arith, slice_index, slice_set, length-drop, add-zero}
 use Rattle.std.specs.Prelude.{◌==◌}
 use Rattle.std.proofs.lemmas.Nat.{be_bytes_2, be_bytes_4, be_bytes_8}
-use Rattle.std.proofs.lemmas.List.{get_or-take, get_or-drop, length-take-le}
+use Rattle.std.proofs.lemmas.List.{get_or-drop, length-take-le}
 use Rattle.std.proofs.lemmas.Grind.{common_steps}
 use Rattle.byteorder.specs.Endian.{big_bytes, big_number}
 use Rattle.byteorder.specs.Numbers.{big_number-reads_back, big_from-take}
+use Rattle.shared_definitions.specs.Bytes.{AreBytes}
+use Rattle.shared_definitions.proofs.ByteLemmas.{AreBytes-part}
 use Rattle.machine_bytes.specs.Reading.{number_at, is_flag}
 use Rattle.machine_bytes.specs.Spelling.{flag_number}
-
--- each number of the list is a byte
-abbrev pub AreBytes : List ℕ → Type 0
-AreBytes b = (k : ℕ) → slice_index b k < 256
 
 pub read_2 : (x : ℕ) → x < 2 ^ 16 → big_number 2 (big_bytes 2 x) ≡ x
 read_2 x h = big_number-reads_back 2 x [] h
@@ -51,12 +49,6 @@ spelled_8 bs l h = be_bytes_8 bs (big_number 8 bs) l h (omega arith)
 -- the n bytes at a place are those of the number there
 abbrev pub Writes : ℕ → Type 0
 Writes n = (b : List ℕ) (at : ℕ) → AreBytes b → at + n ≤ length b → big_bytes n (number_at n b at) ≡ take n (drop at b)
-
-pub AreBytes-part : (b : List ℕ) (n at : ℕ) → AreBytes b → AreBytes (take n (drop at b))
-AreBytes-part b n at h k = grind (arith, common_steps, h (at + k), get_or-take, get_or-drop)
-
-pub AreBytes-drop : (b : List ℕ) (n : ℕ) → AreBytes b → AreBytes (drop n b)
-AreBytes-drop b n h k = rw (get_or-drop n b k 0) (h (n + k))
 
 part_written : (n : ℕ) → IsSpelled n → Writes n
 part_written n spelled b at h l =

@@ -2,7 +2,9 @@
 use Rattle.std.proofs.Common.{◌≡◌, ℕ, zero, suc, ◌+◌, ◌*◌, ◌≤◌, true, List, ◌++◌, length, take, drop, refl, ap, sym, ◌∙◌, arith, length-drop}
 use Rattle.std.proofs.Math.Seq.{take-add}
 use Rattle.virt_queue.specs.declared.fields.QueueFields.{QueueFields}
-use Rattle.machine_bytes.proofs.NumberLemmas.{AreBytes, AreBytes-drop, written_2, written_4, written_8, written_flag}
+use Rattle.shared_definitions.specs.Bytes.{AreBytes}
+use Rattle.shared_definitions.proofs.ByteLemmas.{AreBytes-drop}
+use Rattle.machine_bytes.proofs.NumberLemmas.{written_2, written_4, written_8, written_flag}
 use Rattle.machine_bytes.specs.Reading.{number_at, is_flag, words_of, csrs_of, queue_of, device_of}
 use Rattle.machine_bytes.specs.Spelling.{words_bytes, csr_bytes, queue_bytes, register_bytes}
 
@@ -29,7 +31,7 @@ unfolding words_bytes words_of
 words_written zero b h l = refl
 words_written (suc n) b h l =
     let rest : words_bytes (words_of n (drop 4 b)) ≡ take (4 * n) (drop 4 b) =
-    words_written n (drop 4 b) (AreBytes-drop b 4 h) (omega (arith, length-drop 4 b)) in
+    words_written n (drop 4 b) (AreBytes-drop 4 b h) (omega (arith, length-drop 4 b)) in
     let count : 4 + 4 * n ≡ 4 * suc n = omega arith in
     more b _ _ 4 (4 * n) (written_4 b 0 h (omega arith)) rest ∙ ap (λ (k : ℕ). take k b) count
 

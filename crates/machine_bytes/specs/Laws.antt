@@ -1,5 +1,6 @@
 -- The bytes of a state and its values are one, both ways.
-use Rattle.std.specs.Prelude.{◌≡◌, ℕ, ◌<◌, true, List, slice_index}
+use Rattle.std.specs.Prelude.{◌≡◌, ℕ, true, List}
+use Rattle.shared_definitions.specs.Bytes.{AreBytes}
 use Rattle.machine_bytes.specs.Reading.{fields_in, accepts}
 use Rattle.machine_bytes.specs.Spelling.{bytes_of}
 use Rattle.machine_bytes.specs.Legal.{IsInRange, IsLegal}
@@ -16,11 +17,8 @@ AreAccepted = (v : StateFields) → IsInRange v → IsLegal v → accepts (bytes
 -- bytes that are accepted stand for values that a machine can have
 abbrev pub AreLegalFields : Type 0
 AreLegalFields =
-    (b : List ℕ) → ((k : ℕ) → slice_index b k < 256) → accepts b ≡ true →
-    IsInRange (fields_in b) × IsLegal (fields_in b)
+    (b : List ℕ) → AreBytes b → accepts b ≡ true → IsInRange (fields_in b) × IsLegal (fields_in b)
 
 -- bytes that are accepted are written again as they are
 abbrev pub WritesBack : Type 0
-WritesBack =
-    (b : List ℕ) → ((k : ℕ) → slice_index b k < 256) → accepts b ≡ true →
-    bytes_of (fields_in b) ≡ b
+WritesBack = (b : List ℕ) → AreBytes b → accepts b ≡ true → bytes_of (fields_in b) ≡ b

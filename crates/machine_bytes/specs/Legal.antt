@@ -1,5 +1,6 @@
 -- Which values a machine can have beside its memory and its disk.
 use Rattle.std.specs.Prelude.{◌≡◌, ℕ, ◌<◌, ◌%◌, ◌^◌, length, slice_index}
+use Rattle.shared_definitions.specs.Bytes.{AreBytes}
 use Rattle.rv_core.specs.declared.registers.HartFields.{HartFields}
 use Rattle.rv_traps.specs.CsrState.{AreLegal}
 use Rattle.rv_traps.specs.declared.fields.CsrFields.{CsrFields}
@@ -62,7 +63,7 @@ pub record IsInRange (v : StateFields) : Type 0 where
   pub receives : IsQueueInRange (queue_at v.net 0)
   pub sends : IsQueueInRange (queue_at v.net 1)
   pub count : length v.neighbour ≡ 6
-  pub neighbour : (k : ℕ) → slice_index v.neighbour k < 256
+  pub neighbour : AreBytes v.neighbour
   pub block : IsDeviceInRange v.block
   pub block_queues : length v.block.queues ≡ 2
   pub serves : IsQueueInRange (queue_at v.block 0)

@@ -1,6 +1,7 @@
 //! From the values of a state to bytes.
 
 ghost use Rattle.std.specs.Prelude.{◌≡◌, ℕ, ◌+◌, ◌<◌, ◌≤◌, ◌^◌, ◌++◌, true, length, slice_index};
+ghost use Rattle.shared_definitions.specs.Bytes.{AreBytes};
 ghost use Rattle.virtio_mmio.specs.Fields.{queue_at};
 ghost use Rattle.byteorder.specs.Endian.{big_bytes};
 ghost use Rattle.arrayvec.specs.ArrayVec.{array_vec_len};
@@ -190,7 +191,7 @@ fn put_neighbour(out: &mut ArrayVec<u8, 359>, mac: &[u8; 6])
     ensures items { out.new.items ≡ out.old.items ++ mac.now }
     ensures len { array_vec_len out.new ≡ array_vec_len out.old + 6 }
     ensures count { length mac.now ≡ 6 }
-    ensures bytes { (k : ℕ) → slice_index mac.now k < 256 }
+    ensures bytes { AreBytes mac.now }
 {
     put(out, mac);
 }

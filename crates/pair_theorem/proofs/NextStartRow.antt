@@ -4,7 +4,7 @@ use Rattle.std.proofs.Common.{◌≡◌, ℕ, zero, suc, true, List, [], ◌∷�
 use Rattle.std.specs.Prelude.{All}
 use Rattle.std.specs.List.{list_all}
 use Rattle.std.proofs.lemmas.Bool.{and_parts}
-use Rattle.inet_frame.specs.Bytes.{AreBytes}
+use Rattle.shared_definitions.specs.Bytes.{AreBytes}
 use Rattle.state_wire.specs.Guest.{GuestState, GuestTurn}
 use Rattle.pair_theorem.proofs.AllLemmas.{All_from}
 use Rattle.pair_theorem.proofs.PartTests.{bytes_are, is_byte}

@@ -8,8 +8,8 @@ use Rattle.colo_base.specs.declared.fault.Cause.{Cause}
 use Rattle.colo_base.specs.declared.fault.Cause.TheVariants.{Differ, Restart, Wait, Asked}
 use Rattle.inet_frame.specs.Fields.{TcpFields}
 use Rattle.inet_frame.specs.Flags.{has_rst}
-use Rattle.inet_frame.specs.Bytes.{AreBytes}
-use Rattle.inet_frame.proofs.ByteLemmas.{AreBytes-cons}
+use Rattle.shared_definitions.specs.Bytes.{AreBytes}
+use Rattle.shared_definitions.proofs.ByteLemmas.{AreBytes-cons}
 use Rattle.inet_build.specs.Segment.{fields_of, HeaderFits, IsBuildable, MssFits}
 use Rattle.inet_build.specs.declared.fields.Segment.{Segment}
 use Rattle.tcp_track.specs.Offsets.{distance}

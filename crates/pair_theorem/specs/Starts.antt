@@ -4,7 +4,7 @@ use Rattle.std.specs.Prelude.{◌≡◌, ℕ, true, All, length, if◌then◌els
 use Rattle.tcp_track.specs.Lines.{commit}
 use Rattle.settle_rules.specs.Numbers.{learn_all, thin}
 use Rattle.settle_rules.specs.Progress.{clear_ages}
-use Rattle.inet_frame.specs.Bytes.{AreBytes}
+use Rattle.shared_definitions.specs.Bytes.{AreBytes}
 use Rattle.state_wire.specs.Guest.{GuestState, GuestTurn, Kind}
 use Rattle.frame_mirror.specs.declared.ring.Waiting.{Waiting}
 use Rattle.pair_theorem.specs.History.{pair_log, past_at}

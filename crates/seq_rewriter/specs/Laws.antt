@@ -1,6 +1,6 @@
 -- What holds of kept numbers and of given frames, also where no call has them in hand.
 use Rattle.std.specs.Prelude.{◌≡◌, ℕ, false, if◌then◌else◌, List, ◌∷◌, [], ◌++◌, unwrap_or, length, Option, None, Some}
-use Rattle.inet_frame.specs.Bytes.{AreBytes}
+use Rattle.shared_definitions.specs.Bytes.{AreBytes}
 use Rattle.inet_frame.specs.Counted.{tcp_in}
 use Rattle.inet_frame.specs.Fields.{TcpFields}
 use Rattle.inet_frame.specs.declared.tuple.Tuple.{Tuple}

@@ -1,2 +1,4 @@
+pub mod ByteLemmas
+pub mod FactLemmas
 pub mod OverwriteLemmas
 pub mod RangeLemmas

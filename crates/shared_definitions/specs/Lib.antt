@@ -1,4 +1,5 @@
 pub mod Ascii
+pub mod Bytes
 pub mod FirstOf
 pub mod Halves
 pub mod Memory

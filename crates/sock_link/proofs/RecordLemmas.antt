@@ -1,11 +1,13 @@
 -- Reading whole records off the front of bytes.
-use Rattle.std.proofs.Common.{◌≡◌, ℕ, zero, suc, ◌+◌, ◌<◌, ◌≤◌, List, [], ◌∷◌, ◌++◌, length, take, drop, get_or, sym, ◌∙◌, ap, subst, arith, length-append, append_assoc}
+use Rattle.std.proofs.Common.{◌≡◌, ℕ, ◌+◌, ◌≤◌, List, [], ◌∷◌, ◌++◌, length, take, drop, sym, ◌∙◌, ap, subst, arith, length-append, append_assoc}
 use Rattle.std.specs.Prelude.{All}
 use Rattle.std.specs.Int.{to_be_bytes, w32}
 use Rattle.std.proofs.lemmas.Nat.{be_bytes_4}
-use Rattle.std.proofs.lemmas.List.{take-append-drop, append-nil, get_or-drop, drop-drop, length-take-le}
+use Rattle.std.proofs.lemmas.List.{take-append-drop, append-nil, drop-drop, length-take-le}
 use Rattle.std.proofs.lemmas.List.Elements.{All-push, All-same}
 use Rattle.std.proofs.lemmas.Grind.{common_steps}
+use Rattle.shared_definitions.specs.Bytes.{AreBytes}
+use Rattle.shared_definitions.proofs.ByteLemmas.{AreBytes-drop, AreBytes-take}
 use Rattle.sock_link.specs.Stream.{limit, record_of, stream_of, length_of, frames_in, BeginsRecord}
 use Rattle.sock_link.proofs.StreamLemmas.{length-record_of, stream_of-append, frames_in-stream_of, length-frames_in}
 
@@ -33,22 +35,15 @@ whole_at seen bytes size e begins =
 pub length-frame_at : (bytes : List ℕ) → IsWhole bytes → length (frame_at bytes) ≡ length_of bytes
 length-frame_at bytes w = let few = w.whole in grind (arith, common_steps)
 
--- a part of bytes is bytes
-small_take : (n : ℕ) (xs : List ℕ) → ((i : ℕ) → get_or xs i 0 < 256) → (i : ℕ) → get_or (take n xs) i 0 < 256
-small_take zero xs h i = omega arith
-small_take (suc n) [] h i = h i
-small_take (suc n) (x ∷ xs) h zero = h zero
-small_take (suc n) (x ∷ xs) h (suc i) = small_take n xs (λ j. h (suc j)) i
-
 -- the first four bytes spell the length of the frame
-four_spell : (bytes : List ℕ) → ((i : ℕ) → get_or bytes i 0 < 256) → (n : ℕ) → 4 ≤ length bytes → n ≡ length_of bytes →
+four_spell : (bytes : List ℕ) → AreBytes bytes → (n : ℕ) → 4 ≤ length bytes → n ≡ length_of bytes →
     to_be_bytes w32 n ≡ take 4 bytes
 unfolding length_of
 four_spell bytes small n four e =
-    be_bytes_4 (take 4 bytes) n (length-take-le 4 bytes four) (small_take 4 bytes small) e
+    be_bytes_4 (take 4 bytes) n (length-take-le 4 bytes four) (AreBytes-take 4 bytes small) e
 
 -- the bytes are the record and what follows it
-pub record_at : (bytes : List ℕ) → ((i : ℕ) → get_or bytes i 0 < 256) → IsWhole bytes →
+pub record_at : (bytes : List ℕ) → AreBytes bytes → IsWhole bytes →
     bytes ≡ record_of (frame_at bytes) ++ drop (4 + length_of bytes) bytes
 unfolding record_of
 record_at bytes small w =
@@ -69,7 +64,7 @@ pub record IsRead (bytes : List ℕ) (frames : List (List ℕ)) (size : ℕ) : T
   pub size_is : size ≡ length (stream_of frames)
 
 -- one record more is read
-pub read_more : (bytes : List ℕ) (count size : ℕ) → ((i : ℕ) → get_or bytes i 0 < 256) →
+pub read_more : (bytes : List ℕ) (count size : ℕ) → AreBytes bytes →
     IsRead bytes (frames_in count bytes) size → IsWhole (drop size bytes) →
     IsRead bytes (frames_in (count + 1) bytes) (size + (4 + length_of (drop size bytes)))
 read_more bytes count size small r w =
@@ -77,7 +72,7 @@ read_more bytes count size small r w =
     let f : List ℕ = frame_at rest in
     let fs : List (List ℕ) = frames_in count bytes in
     let n : ℕ = 4 + length_of rest in
-    let small_rest : (i : ℕ) → get_or rest i 0 < 256 = λ i. rw (get_or-drop size bytes i 0) (small (size + i)) in
+    let small_rest : AreBytes rest = AreBytes-drop size bytes small in
     let at : rest ≡ record_of f ++ drop n rest = record_at rest small_rest w in
     let more : frames_in (count + 1) bytes ≡ fs ++ f ∷ [] =
     ap (λ k. frames_in (k + 1) bytes) (sym (length-frames_in count bytes)) ∙ ap (frames_in (length fs + 1)) r.join

@@ -1,2 +1,3 @@
 pub mod BeginLemmas
 mod LoadLemmas
+mod RegularLemmas

@@ -1,4 +1,5 @@
 pub mod Guest
 pub mod Load
+pub mod Regular
 pub mod Run
 pub mod Script

@@ -1,8 +1,10 @@
 -- The test guest: what it sends is a table, and its state shows every turn that it made and the
 -- last frame that it received.
-use Rattle.std.specs.Prelude.{ℕ, ◌+◌, ◌*◌, ◌%◌, ◌^◌, Bool, true, ◌&&◌, nat_le, List, [], ◌++◌, length, take, drop, slice_get, unwrap_or}
+use Rattle.std.specs.Prelude.{ℕ, ◌+◌, ◌*◌, ◌%◌, ◌^◌, All, Bool, true, ◌&&◌, nat_le, List, [], ◌++◌, length, take, drop, slice_get, unwrap_or}
 use Rattle.std.specs.Int.{w64, from_be_bytes, to_be_bytes}
+use Rattle.shared_definitions.specs.Bytes.{AreBytes}
 use Rattle.state_wire.specs.Guest.{GuestState, GuestTurn, Kind, Meaning}
+use Rattle.state_wire.specs.Regular.{IsRegular}
 
 -- the table, the number, the last frame received, and the count of turns
 pub record ScriptParts : Type 0 where
@@ -49,3 +51,8 @@ script_meaning g = record {
   state = record { bytes = script_bytes g.number g.frame; pages = []; sectors = [] };
   turned = g.turned;
 }
+
+-- a test guest is regular where each frame of its table is bytes
+abbrev pub ScriptsAreRegular : Type 0
+ScriptsAreRegular =
+    (table : List (List (List ℕ))) → All (All AreBytes) table → IsRegular (script_kind table)

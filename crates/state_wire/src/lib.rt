@@ -12,5 +12,5 @@ mod laws;
 mod script;
 
 pub use guest::Guest;
-pub use laws::loads_whole;
+pub use laws::{loads_whole, scripts_are_regular};
 pub use script::ScriptGuest;

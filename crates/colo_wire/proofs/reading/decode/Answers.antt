@@ -1,5 +1,5 @@
 use Rattle.std.proofs.Common.{List, ℕ, Err, length, take, sym, ap, subst, ◌∙◌, arith}
-use Rattle.inet_frame.specs.Bytes.{AreBytes}
+use Rattle.shared_definitions.specs.Bytes.{AreBytes}
 use Rattle.colo_wire.specs.Forms.{lengths_of}
 use Rattle.colo_wire.specs.Lengths.{AllowsLength}
 use Rattle.colo_wire.proofs.FaultLemmas.{whole_body_of, decode_answers, made_each, refused_answers, refused_each}

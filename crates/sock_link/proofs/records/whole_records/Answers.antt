@@ -1,5 +1,6 @@
-use Rattle.std.proofs.Common.{◌<◌, ℕ, get_or, drop, arith, length-drop}
+use Rattle.std.proofs.Common.{drop, arith, length-drop}
 use Rattle.std.proofs.lemmas.List.{take_rest}
+use Rattle.shared_definitions.specs.Bytes.{AreBytes}
 use Rattle.sock_link.proofs.RecordLemmas.{whole_at, read_more}
 use Rattle.sock_link.proofs.records.whole_records.Goals as goal
 
@@ -7,7 +8,7 @@ pub loop-record-preserved : goal.loop-record-preserved
 loop-record-preserved c =
     let bytes = c.args.bytes.now in
     let before = c.loop-record.invariant in
-    let small : (i : ℕ) → get_or c.args.bytes.now i 0 < 256 = λ i. omega (arith, c.type_inv.bytes i) in
+    let small : AreBytes c.args.bytes.now = λ i. omega (arith, c.type_inv.bytes i) in
     let w = whole_at _ (drop c.loop-record.size bytes) c.in-Some.record
     (take_rest c.args.bytes.now c.loop-record.size) c.in-Some.ensures.some in
     let more = read_more bytes c.loop-record.count c.loop-record.size small before.0 w.0 in
