@@ -30,7 +30,7 @@ fn main(rt: HostRuntime) -> ExitCode {
         let _ = Fault::NoMemory.put(&mut out);
         return ExitCode::from(Fault::NoMemory.status());
     };
-    let mut shelf = FileShelf::new(&rt);
+    let mut shelf = FileShelf::new(rt.alloc(), &rt);
     let mut link = MemoryLink::new(rt.alloc());
     let mut clock = ScriptClock::new(Vec::new(rt.alloc()));
     let status = colo(

@@ -7,6 +7,8 @@ ghost use Rattle.std.specs.Io.{StartsWith};
 ghost use Rattle.std.specs.IoError.{error_kind};
 
 use crate::{Failed, Shelf, ShelfFault, Sink};
+use std::alloc::Global;
+use std::collections::BTreeMap;
 use std::fs::{File, OpenOptions};
 use std::io;
 use std::io::{ErrorKind, Read, Write};
@@ -16,11 +18,13 @@ use std::rt::Files;
 /// The greatest file that is fetched, in bytes.
 const FILE_LIMIT: usize = 1_073_741_824;
 
-/// The files of the system. A contract sees how many calls failed, one count of a kind for all
-/// names.
+/// The files of the system, of which those that it created stay open. A contract sees how many calls
+/// failed, one count of a kind for all names.
 #[derive(Drop)]
 pub struct FileShelf<'a, R: Files> {
+    alloc: Global,
     files: &'a R,
+    open: BTreeMap<String, R::File>,
     fetch_faults: u64,
     write_faults: u64,
 }
@@ -35,11 +39,13 @@ impl<'a, R: Files> Model for FileShelf<'a, R> {
 
 impl<'a, R: Files> FileShelf<'a, R> {
     /// The files that `files` reaches, of which no call has failed.
-    pub fn new(files: &'a R) -> FileShelf<'a, R>
+    pub fn new(alloc: Global, files: &'a R) -> FileShelf<'a, R>
         ensures { result ≡ record { fetch_faults = 0; write_faults = 0 } }
     {
         FileShelf {
+            alloc,
             files,
+            open: BTreeMap::new(alloc),
             fetch_faults: 0,
             write_faults: 0,
         }
@@ -54,18 +60,17 @@ fn read_file<R: Files>(files: &R, name: &str, into: &mut Vec<u8>) -> io::Result<
     file.take(FILE_LIMIT as u64 + 1).read_to_end(into)
 }
 
-/// Empties a file, or creates it.
-fn create_file<R: Files>(files: &R, name: &str) -> io::Result<()> {
-    File::create(files, name)?;
-    Ok(())
-}
-
-/// Adds bytes at the end of a file, or creates it.
-fn append_file<R: Files>(files: &R, name: &str, bytes: &[u8]) -> io::Result<()> {
+/// Opens a file for writing at its end, and creates one that isn't there.
+fn open_end<R: Files>(files: &R, name: &str) -> io::Result<R::File> {
     let mut options = OpenOptions::new();
     options.append(true).create(true);
-    let mut file = options.open(files, name)?;
-    file.write_all(bytes)
+    options.open(files, name)
+}
+
+/// Empties a file, or creates it, and opens it for writing at its end.
+fn create_file<R: Files>(files: &R, name: &str) -> io::Result<R::File> {
+    File::create(files, name)?;
+    open_end(files, name)
 }
 
 /// What an error of the system is to a caller.
@@ -75,6 +80,30 @@ fn fault_of(error: &io::Error) -> ShelfFault
     match error.kind() {
         ErrorKind::OutOfMemory => ShelfFault::NoMemory,
         _ => ShelfFault::Failed,
+    }
+}
+
+impl<'a, R: Files> FileShelf<'a, R> {
+    /// Creates the file and keeps it open.
+    fn create_open(&mut self, name: &str) -> Result<(), ShelfFault>
+        ensures { self.new ≡ self.old }
+    {
+        let file = match create_file(self.files, name) {
+            Ok(file) => file,
+            Err(error) => return Err(fault_of(&error)),
+        };
+        self.open.insert(String::from_str(self.alloc, name)?, file)?;
+        Ok(())
+    }
+
+    /// Writes the bytes to the file where it is open, else opens it for this write.
+    fn append_open(&mut self, name: &str, bytes: &[u8]) -> io::Result<()>
+        ensures { self.new ≡ self.old }
+    {
+        match self.open.get_mut(name) {
+            Some(file) => file.write_all(bytes),
+            None => open_end(self.files, name)?.write_all(bytes),
+        }
     }
 }
 
@@ -99,19 +128,19 @@ impl<'a, R: Files> Shelf for FileShelf<'a, R> {
         Err(fault)
     }
 
-    /// Empties the file, or creates it.
+    /// Empties the file, or creates it, and keeps it open.
     fn create(&mut self, name: &str) -> Result<(), ShelfFault> {
-        let Err(error) = create_file(self.files, name) else {
+        let Err(fault) = self.create_open(name) else {
             return Ok(());
         };
         self.write_faults = self.write_faults.saturating_add(1);
-        Err(fault_of(&error))
+        Err(fault)
     }
 
-    /// Adds the bytes at the end of the file, or creates it. A write that takes nothing is
-    /// `Failed`.
+    /// Adds the bytes at the end of the file, or creates it. Of a file that this shelf created it is
+    /// one write. A write that takes nothing is `Failed`.
     fn append(&mut self, name: &str, bytes: &[u8]) -> Result<(), ShelfFault> {
-        let Err(error) = append_file(self.files, name, bytes) else {
+        let Err(error) = self.append_open(name, bytes) else {
             return Ok(());
         };
         self.write_faults = self.write_faults.saturating_add(1);

@@ -40,8 +40,9 @@ pub fn load(bytes: &[u8], memory: &mut [u8]) -> Result<u32, ElfFault>
     Ok(entry)
 }
 
-/// Tests the twelve cases in their order, for memory of this size, and gives the entry.
-fn check(bytes: &[u8], size: usize) -> Result<u32, ElfFault>
+/// Tests an image without loading it: the twelve cases in their order, for memory of this size. It
+/// gives the address of the first instruction, and is refused as [`load`] is.
+pub fn check(bytes: &[u8], size: usize) -> Result<u32, ElfFault>
     requires { size ≤ 67108864 }
 
     ensures no_case { OnOk result (elf_case size bytes.now ≡ None) }

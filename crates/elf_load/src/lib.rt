@@ -9,6 +9,6 @@ mod laws;
 mod placing;
 mod segments;
 
-pub use boot::load;
+pub use boot::{check, load};
 pub use fault::ElfFault;
 pub use laws::last_segment_wins;

@@ -42,7 +42,7 @@ fn keeps_files(rt: HostRuntime) -> Result<(), Fail> {
 #[test]
 fn writes_real_files(rt: HostRuntime) -> Result<(), Fail> {
     let name = "colo_base_test_file";
-    let mut shelf = FileShelf::new(&rt);
+    let mut shelf = FileShelf::new(rt.alloc(), &rt);
     let mut into = Vec::new(rt.alloc());
     let written = write_and_read(&mut shelf, name, &mut into);
     let again = write_and_read(&mut shelf, name, &mut into);
