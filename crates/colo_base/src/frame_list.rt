@@ -1,6 +1,6 @@
 //! A list of frames, each a string of bytes.
 
-ghost use Rattle.std.specs.Prelude.{◌≡◌, ◌<◌, ◌↔◌, [], ◌∷◌, ◌++◌, length, IsSome, IfSome, OnOk, OnErr, slice_get};
+ghost use Rattle.std.specs.Prelude.{◌≡◌, ◌<◌, ◌↔◌, [], ◌∷◌, ◌++◌, length, take, IsSome, IfSome, OnOk, OnErr, slice_get};
 ghost use Rattle.std.specs.Option.{option_copied};
 
 use crate::NoMemory;
@@ -49,6 +49,13 @@ impl Frames {
     {
         self.frames.push(frame)?;
         Ok(())
+    }
+
+    /// Keeps the first `count` frames alone; all, where there are no more. It takes no memory.
+    pub fn truncate(&mut self, count: usize)
+        ensures { self.new ≡ take count self.old }
+    {
+        self.frames.truncate(count);
     }
 
     /// How many frames there are.
