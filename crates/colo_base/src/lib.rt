@@ -1,7 +1,8 @@
-//! What every crate of the pair shares: the plain errors, a list of frames, a cursor over bytes,
-//! and the outside.
+//! What every crate of the pair shares: the plain errors, bytes as a value, a list of frames, a
+//! cursor over bytes, and the outside.
 #![tactic(auto)]
 
+mod contents;
 mod cursor;
 mod failure_plan;
 mod fault;
@@ -14,6 +15,7 @@ mod script_clock;
 mod system;
 mod traits;
 
+pub use contents::Contents;
 pub use cursor::Fields;
 pub use fault::{Cause, Failed, NoMemory, Short};
 pub use frame_list::Frames;

@@ -6,3 +6,5 @@ pub mod BodyLemmas
 pub mod JudgeLemmas
 pub mod FaultLemmas
 pub mod SpellingLemmas
+pub mod ReaderLemmas
+pub mod BorrowedLemmas

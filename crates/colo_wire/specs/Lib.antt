@@ -6,3 +6,4 @@ pub mod Spelling
 pub mod Faults
 pub mod Making
 pub mod Judging
+pub mod Reader

@@ -6,10 +6,11 @@
 #![tactic(auto)]
 
 mod answers;
-mod contents;
+mod borrowed;
 mod faults;
 mod forms;
 mod kinds;
+pub mod law;
 mod lengths;
 mod making;
 mod messages;
@@ -18,8 +19,11 @@ mod reading;
 mod writing;
 
 pub use answers::{Gate, HearFault, Told, Turned};
-pub use contents::Contents;
+pub use borrowed::{
+    encode_bytes, encode_disk, encode_frame, encode_held, encode_page, encode_sent, encode_state,
+};
 pub use faults::WireFault;
-pub use messages::Message;
+pub use forms::{FIN, OPENED, REFUSED, RESET};
+pub use messages::{Message, kind_number};
 pub use reading::decode;
 pub use writing::encode;

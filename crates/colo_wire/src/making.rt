@@ -7,9 +7,9 @@ ghost use Rattle.colo_wire.specs.Lengths.{AllowsLength};
 ghost use Rattle.colo_wire.specs.Making.{message_in, number_at, seen_in, tuple_in};
 ghost use Rattle.colo_wire.specs.declared.kinds.Kind.TheVariants as kind;
 
-use crate::contents::Contents;
 use crate::kinds::Kind;
 use crate::messages::Message;
+use colo_base::Contents;
 use inet_frame::Tuple;
 use std::alloc::{AllocError, Global};
 use tcp_track::Opening;

@@ -1,10 +1,11 @@
 //! The messages.
 
 ghost use Rattle.std.specs.Prelude.{◌≡◌};
+ghost use Rattle.colo_wire.specs.Kinds.{number_of_kind};
 ghost use Rattle.colo_wire.specs.Spelling.{kind_of};
 
-use crate::contents::Contents;
-use crate::kinds::Kind;
+use crate::kinds::{Kind, number_of_kind};
+use colo_base::Contents;
 use inet_frame::Tuple;
 use tcp_track::{Offset, Opening};
 
@@ -112,4 +113,11 @@ pub fn kind_of(message: &Message) -> Kind
         Message::Sent { .. } => Kind::Sent,
         Message::Ack { .. } => Kind::Ack,
     }
+}
+
+/// The number of a message's kind, from 1 to 14.
+pub fn kind_number(message: &Message) -> u8
+    ensures { result ≡ number_of_kind (kind_of message.now) }
+{
+    number_of_kind(kind_of(message))
 }

@@ -7,7 +7,7 @@ ghost use Rattle.colo_wire.specs.Kinds.{number_of_kind};
 ghost use Rattle.colo_wire.specs.Spelling.{HasSpelling, body_of, kind_of, line_front, line_numbers, line_rest, message_bytes, number_body, seen_bytes, tuple_bytes, waiting_body};
 ghost use Rattle.colo_wire.specs.declared.kinds.Kind.TheVariants as kind;
 
-use crate::kinds::number_of_kind;
+use crate::kinds::{Kind, number_of_kind};
 use crate::messages::{Message, kind_of};
 use colo_base::NoMemory;
 use inet_frame::Tuple;
@@ -56,7 +56,7 @@ fn put_seen(seen: Option<Opening>, into: &mut Vec<u8>) -> Result<(), AllocError>
 
 /// Appends the body of a waiting frame.
 #[tactic(auto, unfolding(crate::specs::Spelling::waiting_body))]
-fn put_waiting(
+pub(crate) fn put_waiting(
     index: u64,
     seen: Option<Opening>,
     trim: Offset,
@@ -85,7 +85,7 @@ fn put_number(tuple: Tuple, client: u32, number: u32, into: &mut Vec<u8>) -> Res
 }
 
 /// Appends the number of a page or a sector, and bytes.
-fn put_part(k: u32, bytes: &[u8], into: &mut Vec<u8>) -> Result<(), AllocError>
+pub(crate) fn put_part(k: u32, bytes: &[u8], into: &mut Vec<u8>) -> Result<(), AllocError>
     ensures ok { OnOk result (into.new.items ≡ into.old.items ++ (to_be_bytes w32 k ++ bytes.now)) }
     ensures err { OnErr result (StartsWith into.new.items into.old.items) }
 {
@@ -232,6 +232,17 @@ fn body_len(message: &Message) -> usize
     }
 }
 
+/// Appends a kind and the length of a body.
+pub(crate) fn put_kind(kind: Kind, len: usize, into: &mut Vec<u8>) -> Result<(), AllocError>
+    requires { len < 2 ^ 32 }
+    ensures ok { OnOk result (into.new.items ≡ into.old.items
+        ++ (number_of_kind kind ∷ to_be_bytes w32 len)) }
+    ensures err { OnErr result (StartsWith into.new.items into.old.items) }
+{
+    into.push(number_of_kind(kind))?;
+    put_u32(len as u32, into)
+}
+
 /// Appends the kind of a message and the length of its body.
 fn put_head(message: &Message, into: &mut Vec<u8>) -> Result<(), AllocError>
     requires { length (body_of message.now) < 2 ^ 32 }
@@ -240,9 +251,7 @@ fn put_head(message: &Message, into: &mut Vec<u8>) -> Result<(), AllocError>
         ∷ to_be_bytes w32 (length (body_of message.now)))) }
     ensures err { OnErr result (StartsWith into.new.items into.old.items) }
 {
-    let len = body_len(message);
-    into.push(number_of_kind(kind_of(message)))?;
-    put_u32(len as u32, into)
+    put_kind(kind_of(message), body_len(message), into)
 }
 
 /// Appends the spelling of a message. After `NoMemory` what was there still stands in front.

@@ -1,7 +1,8 @@
 //! A frame for each reason to drop it, a SYN that is cleaned, an ARP request, and a full inbox. The
 //! frames were put together by an independent script.
 
-use frame_mirror::{Entry, FrameBytes, Inbox, Waiting, accept};
+use colo_base::Contents;
+use frame_mirror::{Entry, Inbox, Waiting, accept};
 use std::alloc::{AllocError, Global};
 use std::test::Fail;
 use worked_frames::{ARP, ARP_REPLY, CLEAN_SYN, CLIENT_SYN, SUMMED_UDP};
@@ -79,7 +80,7 @@ fn waiting(alloc: Global, index: u64) -> Waiting {
         index,
         seen: None,
         trim: 0,
-        frame: FrameBytes::from_vec(Vec::new(alloc)),
+        frame: Contents::from_vec(Vec::new(alloc)),
     }
 }
 

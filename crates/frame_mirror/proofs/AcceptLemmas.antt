@@ -1,5 +1,7 @@
 -- What is kept of an accepted frame.
 use Rattle.std.proofs.Common.{◌≡◌, ℕ, ◌==◌, Bool, true, false, cond, List, length, Option, None, Some, refl, sym, ap, subst, ◌∙◌, arith}
+use Rattle.std.proofs.lemmas.Bool.{false≢true}
+use Rattle.std.specs.Prelude.{IsSome}
 use Rattle.shared_definitions.specs.Bytes.{AreBytes}
 use Rattle.inet_frame.specs.Arp.{reply_bytes}
 use Rattle.inet_frame.specs.Counted.{tcp_in, tcp_of, client_tuple_of, guest_address, guest_mac}
@@ -14,7 +16,7 @@ use Rattle.inet_build.specs.Edit.{clean_syn, clean_syn_fields}
 use Rattle.inet_build.specs.Options.{clean_options}
 use Rattle.inet_build.proofs.CleanLemmas.{clean_syn_twice, AreBytes-clean_syn}
 use Rattle.inet_build.proofs.LawLemmas.{clean_keeps}
-use Rattle.frame_mirror.specs.Accepted.{entry_of, entry_of_seen, is_to_guest, other_destination, udp_frame}
+use Rattle.frame_mirror.specs.Accepted.{entry_of, entry_of_seen, is_accepted, is_for_guest, is_to_guest, other_destination, udp_frame}
 use Rattle.frame_mirror.specs.Laws.{AcceptedIsKept, KeptIsAccepted}
 use Rattle.frame_mirror.specs.declared.ingress.Entry.TheVariants.{Frame, Answer}
 
@@ -108,3 +110,19 @@ kept_is_accepted b kept bytes e =
     ap clean_syn k.clean ∙ (clean_syn_twice b segment ∙ sym k.clean) in
     entry_from kept (seen_of kept) t (seen_from (seen_of kept) t k.still_tcp) to_guest
     ∙ ap (λ (xs : List ℕ). Frame xs) again
+
+-- ---- frames that are accepted as they are
+
+segment_of : (o : Option TcpFields) → is_for_guest o ≡ true → IsSome o
+segment_of None e = absurd (false≢true e)
+segment_of (Some t) e = refl
+
+pub accepted_is_segment : (frame : List ℕ) → is_accepted frame ≡ true → IsSome (tcp_in frame)
+accepted_is_segment frame e = segment_of (tcp_in frame) e
+
+-- what is kept of a frame that is accepted
+pub kept_is_accepted_as_it_is : (b kept : List ℕ) → AreBytes b → entry_of b ≡ Frame kept → is_accepted kept ≡ true
+kept_is_accepted_as_it_is b kept bytes e =
+    let k = accepted_is_kept b kept bytes e in
+    ap is_for_guest k.still_tcp
+    ∙ (to_guest_by (has_syn k.fields.flags) k.fields (clean_options k.fields.options) ∙ k.to_guest)

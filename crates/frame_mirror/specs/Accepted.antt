@@ -1,10 +1,11 @@
 -- Client frames: an accepted one is a TCP segment to the guest, with clean options; an ARP request
 -- for the guest's address is answered (RFC 826); all others are dropped, each with the number of
 -- its first reason.
-use Rattle.std.specs.Prelude.{ℕ, Bool, ◌&&◌, ◌==◌, if◌then◌else◌, List}
+use Rattle.std.specs.Prelude.{ℕ, Bool, false, ◌&&◌, ◌==◌, if◌then◌else◌, List, Option, None, Some}
 use Rattle.std.specs.Str.{bytes_eq}
 use Rattle.inet_frame.specs.Arp.{reply_bytes}
-use Rattle.inet_frame.specs.Counted.{guest_address, guest_mac}
+use Rattle.inet_frame.specs.Counted.{guest_address, guest_mac, tcp_in}
+use Rattle.inet_frame.specs.Fields.{TcpFields}
 use Rattle.inet_frame.specs.Frame.{seen_of}
 use Rattle.inet_frame.specs.declared.parser.Seen.{Seen}
 use Rattle.inet_frame.specs.declared.parser.Seen.TheVariants.{Tcp, Arp, Udp, Other}
@@ -37,3 +38,11 @@ entry_of_seen b (Other why) = Drop why
 unfoldable pub entry_of : List ℕ → Entry
 unfolding entry_of_seen
 entry_of b = entry_of_seen b (seen_of b)
+
+-- a frame that is accepted: a TCP segment with the guest's MAC and address
+abbrev pub is_for_guest : Option TcpFields → Bool
+is_for_guest None = false
+is_for_guest (Some t) = is_to_guest t.dst_mac t.dst
+
+abbrev pub is_accepted : List ℕ → Bool
+is_accepted frame = is_for_guest (tcp_in frame)

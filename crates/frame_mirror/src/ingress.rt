@@ -3,10 +3,9 @@
 ghost use Rattle.std.specs.Prelude.{◌≡◌, IfOk, IsSome};
 ghost use Rattle.inet_frame.specs.Counted.{tcp_in};
 ghost use Rattle.inet_build.specs.Edit.{clean_syn};
-ghost use Rattle.frame_mirror.specs.Accepted.{entry_of, is_to_guest};
+ghost use Rattle.frame_mirror.specs.Accepted.{entry_of, is_accepted, is_to_guest};
 
-use crate::contents::FrameBytes;
-use colo_base::NoMemory;
+use colo_base::{Contents, NoMemory};
 use inet_build::clean_syn;
 use inet_frame::{GUEST_ADDRESS, GUEST_MAC, Seen, Why, arp_reply, parse};
 use std::alloc::Global;
@@ -21,7 +20,7 @@ pub const UDP_FRAME: Why = Why { number: 14 };
 #[derive(Drop)]
 pub enum Entry {
     /// It is accepted: a TCP segment to the guest, with clean options.
-    Frame(FrameBytes),
+    Frame(Contents),
     /// It is an ARP request for the guest's address, which this reply answers.
     Answer([u8; 42]),
     /// It is dropped, with the first reason.
@@ -62,6 +61,17 @@ pub fn accept(alloc: Global, frame: &[u8]) -> Result<Entry, NoMemory>
     }
 }
 
+/// Says whether a frame is one that `accept` accepts: a TCP segment with the guest's MAC and IPv4
+/// address. It takes no memory.
+pub fn is_accepted(frame: &[u8]) -> bool
+    ensures { result ≡ is_accepted frame.now }
+{
+    match parse(frame) {
+        Seen::Tcp(segment) => is_to_guest(segment.dst_mac(), segment.dst()),
+        Seen::Arp(_) | Seen::Udp(_) | Seen::Other(_) => false,
+    }
+}
+
 /// Says whether a frame goes to the guest's MAC and IPv4 address.
 fn is_to_guest(mac: &[u8], address: u32) -> bool
     ensures { result ≡ is_to_guest mac.now address }
@@ -70,11 +80,11 @@ fn is_to_guest(mac: &[u8], address: u32) -> bool
 }
 
 /// A copy of a segment, with clean options.
-fn clean_copy(alloc: Global, frame: &[u8]) -> Result<FrameBytes, NoMemory>
+fn clean_copy(alloc: Global, frame: &[u8]) -> Result<Contents, NoMemory>
     requires { IsSome (tcp_in frame.now) }
     ensures { IfOk result (λ copy. copy ≡ clean_syn frame.now) }
 {
     let mut copy = frame.to_vec(alloc)?;
     clean_syn(copy.as_mut_slice());
-    Ok(FrameBytes::from_vec(copy))
+    Ok(Contents::from_vec(copy))
 }

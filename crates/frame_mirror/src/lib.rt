@@ -11,12 +11,10 @@
 //! ```
 #![tactic(auto)]
 
-mod contents;
 mod ingress;
 mod law;
 mod ring;
 
-pub use contents::FrameBytes;
-pub use ingress::{Entry, OTHER_DESTINATION, UDP_FRAME, accept};
+pub use ingress::{Entry, OTHER_DESTINATION, UDP_FRAME, accept, is_accepted};
 pub use law::accepted_frames_are_clean;
-pub use ring::{INBOX_ROOM, Inbox, Waiting};
+pub use ring::{INBOX_ROOM, Inbox, Waiting, has_room, hold};

@@ -1,11 +1,12 @@
 //! Accepted frames that wait for a guest.
 
-ghost use Rattle.std.specs.Prelude.{◌≡◌, ◌==◌, ◌<◌, ◌≤◌, ◌↔◌, ◌++◌, ◌∷◌, [], length, slice_get, IfOk, IfErr, IsOk, OnOk};
+ghost use Rattle.std.specs.Prelude.{◌≡◌, ◌==◌, ◌<◌, ◌≤◌, ◌↔◌, ◌++◌, ◌∷◌, [], true, length, slice_get, IfOk, IfErr, IsOk, OnOk};
 ghost use Rattle.std.specs.Option.{option_copied};
+ghost use Rattle.frame_mirror.specs.Accepted.{is_accepted};
+ghost use Rattle.frame_mirror.specs.Inboxes.{AreAccepted, has_room};
 
-use crate::contents::FrameBytes;
 use circular_buffer::HeapCircularBuffer;
-use colo_base::NoMemory;
+use colo_base::{Contents, NoMemory};
 use std::alloc::Global;
 use std::marker::Model;
 use tcp_track::{Offset, Opening};
@@ -21,7 +22,7 @@ pub struct Waiting {
     /// The offset below which its acknowledgement trims the connection's line; 0 where it does not.
     pub trim: Offset,
     /// The frame, clean.
-    pub frame: FrameBytes,
+    pub frame: Contents,
 }
 
 /// How many frames an inbox holds at most.
@@ -94,4 +95,24 @@ impl Inbox {
     {
         self.frames.is_empty()
     }
+}
+
+/// Says whether an inbox has room for one more frame.
+pub fn has_room(inbox: &Inbox) -> bool
+    ensures value { result ≡ has_room inbox.now }
+    ensures room { result ≡ true → length inbox.now < INBOX_ROOM }
+{
+    inbox.len() < INBOX_ROOM
+}
+
+/// Puts an accepted frame last, for which there is room. It takes no memory.
+pub fn hold(inbox: &mut Inbox, waiting: Waiting)
+    requires room { length inbox.old < INBOX_ROOM }
+    requires accepted { is_accepted waiting.frame ≡ true }
+    requires all { AreAccepted inbox.old }
+    ensures value { inbox.new ≡ inbox.old ++ waiting ∷ [] }
+    ensures all { AreAccepted inbox.new }
+{
+    let put = inbox.put(waiting);
+    let _ = put.is_ok();
 }

@@ -284,6 +284,7 @@ impl<D: Disk + Drop> Guest for Machine<D> {
             ≡ into.old.items ++ (machine_meaning self.now).state.bytes) }
         ensures accepted { OnOk result (IsTrue ((machine_meaning self.now).kind.accepts
             (machine_meaning self.now).state.bytes)) }
+        ensures size { OnOk result (length (machine_meaning self.now).state.bytes ≤ 16777216) }
         ensures front { StartsWith into.new.items into.old.items }
         ensures refuses { self.now.spent ≡ true → IsErr result }
     {

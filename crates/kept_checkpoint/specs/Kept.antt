@@ -5,6 +5,8 @@ use Rattle.std.specs.Option.{option_map}
 use Rattle.inet_frame.specs.declared.tuple.Tuple.{Tuple}
 use Rattle.tcp_track.specs.Tracking.{Tracking, committed, nothing_tracked, with_line}
 use Rattle.seq_rewriter.specs.Kept.{KeptNumbers, keep_number}
+use Rattle.frame_mirror.specs.Accepted.{is_accepted}
+use Rattle.frame_mirror.specs.Inboxes.{AreAccepted}
 use Rattle.frame_mirror.specs.declared.ring.TheConstants.{INBOX_ROOM}
 use Rattle.frame_mirror.specs.declared.ring.Waiting.{Waiting}
 use Rattle.state_wire.specs.Guest.{Meaning}
@@ -12,7 +14,6 @@ use Rattle.colo_wire.specs.Forms.{opened}
 use Rattle.colo_wire.specs.Places.{has_flag}
 use Rattle.colo_wire.specs.declared.messages.Message.{Message}
 use Rattle.colo_wire.specs.declared.messages.Message.TheVariants.{Page, Disk, Held, Line, Bytes}
-use Rattle.kept_checkpoint.specs.Accepted.{AreSegments, is_accepted}
 use Rattle.kept_checkpoint.specs.Lines.{bytes_fit, line_fits, line_in, with_bytes}
 use Rattle.kept_checkpoint.specs.Slots.{AreOfSize, Slots, no_parts, over, page_size, put_part, put_sectors, sector_size}
 use Rattle.kept_checkpoint.specs.declared.lines.LastLine.{LastLine}
@@ -28,11 +29,11 @@ pub record Kept : Type 0 where
   pub numbers : KeptNumbers
   pub last : Option LastLine
 
--- pages and sectors are whole, and what waits are segments
+-- pages and sectors are whole, and what waits was accepted
 pub record IsKept (kept : Kept) : Type 0 where
   pub pages : AreOfSize page_size kept.pages
   pub sectors : AreOfSize sector_size kept.sectors
-  pub segments : AreSegments kept.inbox
+  pub accepted : AreAccepted kept.inbox
 
 -- the state's bytes alone were heard, for a guest with so many pages and sectors
 abbrev pub begin_kept : List ℕ → ℕ → ℕ → Kept

@@ -1,4 +1,3 @@
-pub mod Accepted
 pub mod Slots
 pub mod Lines
 pub mod Kept

@@ -1,22 +1,19 @@
 //! A checkpoint that is kept apart.
 
 ghost use Rattle.std.specs.Prelude.{◌≡◌, ◌+◌, ◌/◌, ◌<◌, ◌≤◌, ◌++◌, ◌∷◌, [], true, length, IfOk, OnOk, IsSome, None};
-ghost use Rattle.inet_frame.specs.Counted.{tcp_in};
-ghost use Rattle.frame_mirror.specs.declared.ring.TheConstants.{INBOX_ROOM};
 ghost use Rattle.colo_wire.specs.Spelling.{kind_of};
 ghost use Rattle.colo_wire.specs.declared.kinds.Kind.TheVariants as kind;
 ghost use Rattle.colo_wire.specs.declared.messages.Message.TheVariants as message;
-ghost use Rattle.kept_checkpoint.specs.Accepted.{AreSegments};
+ghost use Rattle.frame_mirror.specs.Inboxes.{AreAccepted};
 ghost use Rattle.kept_checkpoint.specs.Lines.{line_fits};
 ghost use Rattle.kept_checkpoint.specs.Slots.{page_size, sector_size};
 ghost use Rattle.kept_checkpoint.specs.Kept.{HasPageSize, begin_kept, close_lines, fits, keep, kept_lines, number_in};
 
-use crate::accepted::is_accepted;
-use crate::lines::{LastLine, OPENED, add_bytes, bytes_fit, has_flag, line_fits, line_in};
+use crate::lines::{LastLine, add_bytes, bytes_fit, has_flag, line_fits, line_in};
 use crate::slots::{SECTOR_SIZE, Slots};
-use colo_base::NoMemory;
-use colo_wire::{Contents, Message};
-use frame_mirror::{FrameBytes, INBOX_ROOM, Inbox, Waiting};
+use colo_base::{Contents, NoMemory};
+use colo_wire::{Message, OPENED};
+use frame_mirror::{INBOX_ROOM, Inbox, Waiting, hold, is_accepted};
 use inet_frame::Tuple;
 use seq_rewriter::Numbers;
 use std::alloc::Global;
@@ -181,7 +178,7 @@ impl KeptCheckpoint {
                 index: *index,
                 seen: *seen,
                 trim: *trim,
-                frame: FrameBytes::from_vec(frame),
+                frame: Contents::from_vec(frame),
             },
         );
         Ok(())
@@ -217,7 +214,7 @@ impl KeptCheckpoint {
         ensures inbox { IfOk result (λ tables. tables.inbox ≡ self.inbox) }
         ensures lines { IfOk result (λ tables. tables.lines ≡ kept_lines self) }
         ensures numbers { IfOk result (λ tables. tables.numbers ≡ self.numbers) }
-        ensures segments { IfOk result (λ tables. AreSegments tables.inbox) }
+        ensures accepted { IfOk result (λ tables. AreAccepted tables.inbox) }
     {
         let KeptCheckpoint {
             inbox,
@@ -234,18 +231,6 @@ impl KeptCheckpoint {
             numbers,
         })
     }
-}
-
-/// Puts a frame last, for which there is room. It takes no memory.
-pub fn hold(inbox: &mut Inbox, waiting: Waiting)
-    requires room { length inbox.old < INBOX_ROOM }
-    requires segment { IsSome (tcp_in waiting.frame) }
-    requires segments { AreSegments inbox.old }
-    ensures value { inbox.new ≡ inbox.old ++ waiting ∷ [] }
-    ensures segments { AreSegments inbox.new }
-{
-    let put = inbox.put(waiting);
-    let _ = put.is_ok();
 }
 
 /// Keeps the number of a line, where it is opened.

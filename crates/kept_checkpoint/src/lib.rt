@@ -6,14 +6,12 @@
 //! one that is sent again takes no more memory.
 #![tactic(auto)]
 
-mod accepted;
 mod kept;
 pub mod law;
 mod lines;
 mod loading;
 mod slots;
 
-pub use accepted::is_accepted;
-pub use kept::{KeptCheckpoint, Tables, hold};
+pub use kept::{KeptCheckpoint, Tables};
 pub use lines::LastLine;
 pub use slots::Slots;

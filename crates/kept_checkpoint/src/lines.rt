@@ -7,19 +7,10 @@ ghost use Rattle.colo_wire.specs.Places.{has_flag};
 ghost use Rattle.kept_checkpoint.specs.Lines.{bytes_fit, line_fits, line_in, refused_by, with_bytes};
 
 use colo_base::NoMemory;
-use colo_wire::Message;
+use colo_wire::{FIN, Message, OPENED, REFUSED, RESET};
 use inet_frame::Tuple;
 use std::alloc::Global;
 use tcp_track::{KeptBytes, Line, OFFSET_BOUND, Offset, Opening};
-
-/// The flag of a line that is opened.
-pub const OPENED: u8 = 1;
-/// The flag of a line that was reset.
-const RESET: u8 = 2;
-/// The flag of a line with a refusal.
-const REFUSED: u8 = 4;
-/// The flag of a line that ends.
-const FIN: u8 = 8;
 
 /// A line of which more bytes may follow.
 #[derive(Drop)]

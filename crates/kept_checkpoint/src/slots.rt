@@ -4,8 +4,7 @@ ghost use Rattle.std.specs.Prelude.{◌≡◌, ◌+◌, ◌*◌, ◌≤◌, ◌<
 ghost use Rattle.std.specs.Option.{option_copied};
 ghost use Rattle.kept_checkpoint.specs.Slots.{AreOfSize, no_parts, part_at, put_part, put_sectors, sector_at, sector_size};
 
-use colo_base::NoMemory;
-use colo_wire::Contents;
+use colo_base::{Contents, NoMemory};
 use std::alloc::Global;
 use std::marker::Model;
 

@@ -15,7 +15,7 @@ use Rattle.colo_wire.specs.declared.answers.Told.{Told}
 use Rattle.colo_wire.specs.declared.faults.WireFault.{WireFault}
 use Rattle.colo_wire.specs.declared.messages.Message.{Message}
 use Rattle.colo_wire.specs.declared.messages.Message.TheVariants.{Frame, Number, Begin, State, Page, Disk, Write, Held, Line, Bytes, End, Known, Sent, Ack}
-use Rattle.kept_checkpoint.specs.Accepted.{is_for_guest}
+use Rattle.frame_mirror.specs.Accepted.{is_accepted}
 use Rattle.kept_checkpoint.specs.Kept.{HasPageSize, Kept, begin_kept, fits, keep}
 use Rattle.node_secondary.specs.Answers.{IsAnswered, Reading}
 use Rattle.node_secondary.specs.Hearing.{IsOther, IsPart, hear_due, hear_part, is_due, is_due_at, is_due_within, keep_part, told, told_of}
@@ -132,16 +132,12 @@ answered_by old new r reading result a e = subst (λ (x : Reading). IsAnswered o
 
 -- ---- what is due
 
--- a frame that is due is a segment
-segment_by : (o : Option TcpFields) → is_for_guest o ≡ true → IsSome o
-segment_by None e = absurd (false≢true e)
-segment_by (Some t) e = refl
-
-pub frame_is_segment : (kind : Kind) (next : ℕ) (u : UnderWay) (index : ℕ) (seen : Option Opening) (trim : ℕ)
-    (frame : List ℕ) → is_due_at kind next u (Frame index seen trim frame) ≡ true → IsSome (tcp_in frame)
-frame_is_segment kind next Nothing index seen trim frame e = segment_by (tcp_in frame) e
-frame_is_segment kind next Begun index seen trim frame e = absurd (false≢true e)
-frame_is_segment kind next (Heard kept) index seen trim frame e = absurd (false≢true e)
+-- a frame that is due is accepted
+pub frame_is_accepted : (kind : Kind) (next : ℕ) (u : UnderWay) (index : ℕ) (seen : Option Opening) (trim : ℕ)
+    (frame : List ℕ) → is_due_at kind next u (Frame index seen trim frame) ≡ true → is_accepted frame ≡ true
+frame_is_accepted kind next Nothing index seen trim frame e = e
+frame_is_accepted kind next Begun index seen trim frame e = absurd (false≢true e)
+frame_is_accepted kind next (Heard kept) index seen trim frame e = absurd (false≢true e)
 
 -- a state that is due is accepted
 pub state_is_accepted : (kind : Kind) (next : ℕ) (u : UnderWay) (bytes : List ℕ) →

@@ -7,7 +7,8 @@ use Rattle.inet_frame.specs.declared.tuple.Tuple.{Tuple}
 use Rattle.tcp_track.specs.Tracking.{Tracking, trimmed}
 use Rattle.tcp_track.specs.declared.openings.Opening.{Opening}
 use Rattle.seq_rewriter.specs.Kept.{KeptNumbers, keep_number, number_of}
-use Rattle.frame_mirror.specs.declared.ring.TheConstants.{INBOX_ROOM}
+use Rattle.frame_mirror.specs.Accepted.{is_accepted}
+use Rattle.frame_mirror.specs.Inboxes.{has_room}
 use Rattle.frame_mirror.specs.declared.ring.Waiting.{Waiting}
 use Rattle.state_wire.specs.Guest.{Kind}
 use Rattle.colo_wire.specs.Kinds.{number_of_kind}
@@ -15,7 +16,6 @@ use Rattle.colo_wire.specs.Spelling.{kind_of, message_bytes}
 use Rattle.colo_wire.specs.declared.answers.Told.{Told}
 use Rattle.colo_wire.specs.declared.messages.Message.{Message}
 use Rattle.colo_wire.specs.declared.messages.Message.TheVariants.{Frame, Number, Begin, State, End, Known, Ack}
-use Rattle.kept_checkpoint.specs.Accepted.{is_accepted}
 use Rattle.kept_checkpoint.specs.Kept.{Kept, begin_kept, fits, keep, kept_lines, load_kept}
 use Rattle.node_secondary.specs.Node.{Node}
 use Rattle.node_secondary.specs.declared.under_way.UnderWay.{UnderWay}
@@ -84,9 +84,6 @@ abbrev pub trim_lines : Tracking → Waiting → Tracking
 trim_lines lines w = trim_for lines w.seen w.trim (tcp_in w.frame)
 
 -- an inbox with no room drops it
-abbrev pub has_room : List Waiting → Bool
-has_room inbox = nat_lt (length inbox) INBOX_ROOM
-
 abbrev pub with_frame : List Waiting → Waiting → List Waiting
 with_frame inbox w = if has_room inbox then inbox ++ w ∷ [] else inbox
 

@@ -5,7 +5,8 @@ ghost use Rattle.node_secondary.specs.Hearing.{is_due_at, is_due_begun, is_due_o
 
 use crate::under_way::UnderWay;
 use colo_wire::Message;
-use kept_checkpoint::{KeptCheckpoint, is_accepted};
+use frame_mirror::is_accepted;
+use kept_checkpoint::KeptCheckpoint;
 use state_wire::Guest;
 
 /// Says whether a message is due outside a checkpoint, where the next has this number.

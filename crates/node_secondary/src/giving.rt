@@ -1,11 +1,12 @@
 //! The frame that a guest is given.
 
-ghost use Rattle.std.specs.Prelude.{◌≡◌, IsSome, IfSome};
+ghost use Rattle.std.specs.Prelude.{◌≡◌, true, IsSome, IfSome};
 ghost use Rattle.std.specs.Option.{ForSome, option_copied, option_map};
 ghost use Rattle.inet_frame.specs.Counted.{tcp_in};
 ghost use Rattle.tcp_track.specs.Tracking.{current_at};
 ghost use Rattle.state_wire.specs.Guest.{IsFrame};
-ghost use Rattle.kept_checkpoint.specs.Accepted.{AreSegments};
+ghost use Rattle.frame_mirror.specs.Accepted.{is_accepted};
+ghost use Rattle.frame_mirror.specs.Inboxes.{AreAccepted};
 ghost use Rattle.node_secondary.specs.Turns.{current_for, given_frame, left_frames, taken_frame};
 
 use frame_mirror::{Inbox, Waiting};
@@ -41,8 +42,9 @@ fn current_for(lines: &Tracker, frame: &[u8]) -> Option<Opening>
 }
 
 /// The bytes of a waiting frame as the guest's own numbering wants them. It takes no memory.
+#[tactic(auto, using(frame_mirror::proofs::AcceptLemmas::accepted_is_segment))]
 fn given_frame(lines: &Tracker, waiting: Waiting) -> Vec<u8>
-    requires { IsSome (tcp_in waiting.frame) }
+    requires { is_accepted waiting.frame ≡ true }
     ensures bytes { result.items ≡ given_frame lines.now waiting }
     ensures still_tcp { IsSome (tcp_in result.items) }
 {
@@ -55,13 +57,13 @@ fn given_frame(lines: &Tracker, waiting: Waiting) -> Vec<u8>
 /// Takes the oldest frame that waits, if one is wanted, as the guest is given it. It takes no
 /// memory.
 pub fn take_frame(wants: bool, lines: &Tracker, inbox: &mut Inbox) -> Option<Given>
-    requires { AreSegments inbox.old }
+    requires { AreAccepted inbox.old }
     ensures given { option_map (λ g. g.frame.items) result
         ≡ option_map (given_frame lines.now) (taken_frame wants inbox.old) }
     ensures index { option_map (λ g. g.index) result
         ≡ option_map (λ w. w.index) (taken_frame wants inbox.old) }
     ensures left { inbox.new ≡ left_frames wants inbox.old }
-    ensures still_segments { AreSegments inbox.new }
+    ensures still_accepted { AreAccepted inbox.new }
     ensures still_tcp { IfSome result (λ g. IsSome (tcp_in g.frame.items)) }
 {
     if !wants {

@@ -1,23 +1,24 @@
 //! What a secondary hears.
 
 ghost use Rattle.std.specs.Prelude.{◌≡◌, ◌≢◌, true, false, not, Ok, Err, None, Some, IfErr, IfOk, IsSome, IsTrue, OnErr, OnOk};
-ghost use Rattle.inet_frame.specs.Counted.{tcp_in};
+ghost use Rattle.frame_mirror.specs.Accepted.{is_accepted};
+ghost use Rattle.frame_mirror.specs.Inboxes.{has_room};
 ghost use Rattle.colo_wire.specs.Kinds.{number_of_kind};
 ghost use Rattle.colo_wire.specs.Spelling.{IsMessage, kind_of};
 ghost use Rattle.colo_wire.specs.declared.answers.HearFault.TheVariants as hear_fault;
 ghost use Rattle.node_secondary.specs.Node.{node_of};
-ghost use Rattle.node_secondary.specs.Hearing.{IsOther, commit, has_room, hear_due, hear_frame, hear_number, hear_state, is_due, told, told_of};
+ghost use Rattle.node_secondary.specs.Hearing.{IsOther, commit, hear_due, hear_frame, hear_number, hear_state, is_due, told, told_of};
 ghost use Rattle.node_secondary.specs.Answers.{IsAnswered, Reading, Reads};
 ghost use Rattle.node_secondary.specs.declared.under_way.UnderWay.TheVariants as under_way;
 
 use crate::due::is_due;
 use crate::node::Secondary;
 use crate::parts::{begin_kept, keep_number, keep_part, put_frame, put_message, trim_lines};
-use crate::reading::{kind_number, read};
+use crate::reading::read;
 use crate::under_way::UnderWay;
-use colo_base::{Frames, NoMemory};
-use colo_wire::{Contents, HearFault, Message, Told, WireFault};
-use frame_mirror::{FrameBytes, Waiting};
+use colo_base::{Contents, Frames, NoMemory};
+use colo_wire::{HearFault, Message, Told, WireFault, kind_number};
+use frame_mirror::Waiting;
 use inet_frame::Tuple;
 use kept_checkpoint::{KeptCheckpoint, Tables};
 use state_wire::Guest;
@@ -100,7 +101,7 @@ impl<G: Guest + Drop> Secondary<G> {
     }
 
     /// Hears a message that is due.
-    #[tactic(auto, using(crate::proofs::HearingLemmas::frame_is_segment, crate::proofs::HearingLemmas::state_is_accepted, crate::proofs::HearingLemmas::other_by))]
+    #[tactic(auto, using(crate::proofs::HearingLemmas::frame_is_accepted, crate::proofs::HearingLemmas::state_is_accepted, crate::proofs::HearingLemmas::other_by))]
     fn hear_due(&mut self, message: Message) -> Result<Told, NoMemory>
         requires message { IsMessage message }
         requires due { is_due (node_of G.meaning self.old) message ≡ true }
@@ -120,7 +121,7 @@ impl<G: Guest + Drop> Secondary<G> {
                 index,
                 seen,
                 trim,
-                frame: FrameBytes::from_vec(frame.into_vec()),
+                frame,
             })),
             Message::Number {
                 tuple,
@@ -136,7 +137,7 @@ impl<G: Guest + Drop> Secondary<G> {
 
     /// Hears a client's frame. It takes no memory.
     fn hear_frame(&mut self, waiting: Waiting) -> Told
-        requires { IsSome (tcp_in waiting.frame) }
+        requires { is_accepted waiting.frame ≡ true }
         ensures after { node_of G.meaning self.new
             ≡ hear_frame (node_of G.meaning self.old) waiting }
         ensures told { result ≡ told 1 (not (has_room self.old.inbox)) None }

@@ -41,7 +41,7 @@ pub struct Secondary<G: Guest + Drop> {
 
 impl<G: Guest + Drop> Model for Secondary<G> {
     ghost use Rattle.std.specs.Prelude.{◌≡◌};
-    ghost use Rattle.kept_checkpoint.specs.Accepted.{AreSegments};
+    ghost use Rattle.frame_mirror.specs.Inboxes.{AreAccepted};
     ghost use Rattle.node_secondary.specs.Node.{Held, IsLoadable};
 
     ghost Value = { Held G };
@@ -57,7 +57,7 @@ impl<G: Guest + Drop> Model for Secondary<G> {
       spent = s.spent;
     } };
 
-    ghost invariant = { λ s. AreSegments s.inbox
+    ghost invariant = { λ s. AreAccepted s.inbox
         × IsLoadable (G.meaning s.guest).kind s.under_way };
 }
 

@@ -1,22 +1,21 @@
 //! What single messages leave of a secondary's parts.
 
 ghost use Rattle.std.specs.Prelude.{◌≡◌, ◌<◌, ◌++◌, ◌∷◌, [], true, not, length, IsSome, IfOk, OnErr, OnOk};
-ghost use Rattle.inet_frame.specs.Counted.{tcp_in};
-ghost use Rattle.frame_mirror.specs.declared.ring.TheConstants.{INBOX_ROOM};
+ghost use Rattle.frame_mirror.specs.Accepted.{is_accepted};
+ghost use Rattle.frame_mirror.specs.Inboxes.{AreAccepted, has_room};
 ghost use Rattle.seq_rewriter.specs.Kept.{keep_number};
 ghost use Rattle.colo_wire.specs.Spelling.{HasSpelling, message_bytes};
 ghost use Rattle.colo_wire.specs.declared.messages.Message.TheVariants as message;
-ghost use Rattle.kept_checkpoint.specs.Accepted.{AreSegments};
 ghost use Rattle.kept_checkpoint.specs.Kept.{HasPageSize, begin_kept};
-ghost use Rattle.node_secondary.specs.Hearing.{IsPart, has_room, keep_part, known_number, trim_lines, with_frame};
+ghost use Rattle.node_secondary.specs.Hearing.{IsPart, keep_part, known_number, trim_lines, with_frame};
 
 use crate::outbox::Outbox;
 use crate::under_way::UnderWay;
-use colo_base::NoMemory;
-use colo_wire::{Contents, Message, encode};
-use frame_mirror::{INBOX_ROOM, Inbox, Waiting};
+use colo_base::{Contents, NoMemory};
+use colo_wire::{Message, encode};
+use frame_mirror::{Inbox, Waiting, has_room, hold};
 use inet_frame::{Seen, Tuple, parse};
-use kept_checkpoint::{KeptCheckpoint, hold};
+use kept_checkpoint::KeptCheckpoint;
 use seq_rewriter::Numbers;
 use state_wire::Guest;
 use std::alloc::Global;
@@ -46,20 +45,12 @@ pub fn trim_lines(lines: &mut Tracker, waiting: &Waiting)
     }
 }
 
-/// Says whether an inbox has room for one more frame.
-fn has_room(inbox: &Inbox) -> bool
-    ensures value { result ≡ has_room inbox.now }
-    ensures room { result ≡ true → length inbox.now < INBOX_ROOM }
-{
-    inbox.len() < INBOX_ROOM
-}
-
 /// Puts a frame last, where there is room, and says whether there was none. It takes no memory.
 pub fn put_frame(inbox: &mut Inbox, waiting: Waiting) -> bool
-    requires segment { IsSome (tcp_in waiting.frame) }
-    requires segments { AreSegments inbox.old }
+    requires accepted { is_accepted waiting.frame ≡ true }
+    requires all { AreAccepted inbox.old }
     ensures inbox { inbox.new ≡ with_frame inbox.old waiting }
-    ensures segments { AreSegments inbox.new }
+    ensures all { AreAccepted inbox.new }
     ensures full { result ≡ not (has_room inbox.old) }
 {
     if has_room(inbox) {

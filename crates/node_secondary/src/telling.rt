@@ -9,8 +9,8 @@ ghost use Rattle.node_secondary.specs.Turns.{sent_message, sent_messages};
 
 use crate::outbox::Outbox;
 use crate::parts::put_message;
-use colo_base::{Frames, NoMemory};
-use colo_wire::{Contents, Message};
+use colo_base::{Contents, Frames, NoMemory};
+use colo_wire::Message;
 use inet_frame::counted;
 use std::alloc::Global;
 use tcp_track::Tracker;

@@ -7,7 +7,8 @@
 ghost use Rattle.std.specs.Prelude.{◌≡◌, true};
 ghost use Rattle.kept_checkpoint.specs.Kept.{HasPageSize};
 
-use colo_wire::{Contents, Message};
+use colo_base::Contents;
+use colo_wire::Message;
 use inet_frame::Tuple;
 use kept_checkpoint::{KeptCheckpoint, Tables};
 use std::alloc::Global;

@@ -4,35 +4,17 @@ ghost use Rattle.std.specs.Prelude.{◌≡◌, ◌≤◌, length, take, OnOk};
 ghost use Rattle.indexmap.specs.IndexMap.{get};
 ghost use Rattle.inet_frame.specs.Counted.{counted, tcp_in};
 ghost use Rattle.inet_frame.specs.declared.tuple.Tuple.{Tuple};
-ghost use Rattle.tcp_track.specs.Segments.{may_open, opening_in, same_tuple};
+ghost use Rattle.tcp_track.specs.Segments.{same_tuple};
 ghost use Rattle.tcp_track.specs.Stands.{opening_after};
 ghost use Rattle.splice_run.specs.Openings.{KnowsOpenings, opening_at, opening_with};
 
 use colo_base::{Frames, NoMemory};
 use indexmap::IndexMap;
 use inet_frame::{Seen, TcpView, Tuple, counted, parse};
-use tcp_track::Opening;
+use tcp_track::{Opening, may_open, opening_in};
 
 /// The current openings, by the names of their connections.
 pub type Openings = IndexMap<Tuple, Opening>;
-
-/// Whether a segment has SYN and ACK and no RST.
-#[tactic(auto, unfolding(tcp_track::specs::Segments::may_open))]
-fn may_open(segment: &TcpView) -> bool
-    ensures { result ≡ may_open segment.now }
-{
-    segment.has_syn() && (segment.has_ack() && !segment.has_rst())
-}
-
-/// The opening that a segment makes.
-fn opening_in(segment: &TcpView) -> Opening
-    ensures { result ≡ opening_in segment.now }
-{
-    Opening {
-        client: segment.ack().wrapping_sub(1),
-        own: segment.seq(),
-    }
-}
 
 /// Notes the opening of a segment, where it makes one.
 fn note_segment(openings: &mut Openings, segment: &TcpView) -> Result<(), NoMemory>

@@ -13,8 +13,8 @@ ghost use Rattle.splice_run.specs.Runs.{accepted_frame, frame_index, frame_seen,
 ghost use Rattle.splice_run.specs.Solo.{HasMade, IsInLimits, Stops, can_make, run_of, sender, sender_after};
 
 use crate::openings::{Openings, note_frames, opening_at};
-use colo_base::{Frames, NoMemory};
-use frame_mirror::{Entry, FrameBytes, accept};
+use colo_base::{Contents, Frames, NoMemory};
+use frame_mirror::{Entry, accept};
 use indexmap::IndexMap;
 use replay_log::{Turn, TurnFrame};
 use seq_rewriter::inward;
@@ -63,7 +63,7 @@ fn frame_seen(frame: TurnFrame) -> Option<Opening>
 }
 
 /// What is kept of a frame. None where it isn't accepted.
-fn keep(alloc: Global, frame: &[u8]) -> Result<Option<FrameBytes>, NoMemory>
+fn keep(alloc: Global, frame: &[u8]) -> Result<Option<Contents>, NoMemory>
     ensures value { IfOk result (λ kept. kept ≡ kept_of (entry_of frame.now)) }
     ensures clean { IfOk result (λ kept. IfSome kept (IsKept frame.now)) }
 {
@@ -75,11 +75,7 @@ fn keep(alloc: Global, frame: &[u8]) -> Result<Option<FrameBytes>, NoMemory>
 
 /// What is kept of a frame of the stream. None where it isn't there, or isn't accepted.
 #[tactic(auto, unfolding(crate::specs::Runs::accepted_frame))]
-fn accepted_frame(
-    alloc: Global,
-    client: &Frames,
-    index: u64,
-) -> Result<Option<FrameBytes>, NoMemory>
+fn accepted_frame(alloc: Global, client: &Frames, index: u64) -> Result<Option<Contents>, NoMemory>
     ensures value { IfOk result (λ kept. kept ≡ accepted_frame client.now index) }
     ensures clean { IfOk result (λ kept. IfSome kept (IsKept (stream_frame client.now index))) }
 {
@@ -90,7 +86,7 @@ fn accepted_frame(
 }
 
 /// An accepted frame as it is given to a guest with these openings.
-fn raise(kept: FrameBytes, openings: &Openings, seen: Option<Opening>) -> Vec<u8>
+fn raise(kept: Contents, openings: &Openings, seen: Option<Opening>) -> Vec<u8>
     requires { IsSome (tcp_in kept) }
     ensures value { result.items
         ≡ raise_frame kept seen (opening_at (get same_tuple openings.now) (tcp_in kept)) }

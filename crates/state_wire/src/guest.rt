@@ -84,6 +84,7 @@ pub trait Guest {
             ≡ into.old.items ++ (meaning self.now).state.bytes) }
         ensures accepted { OnOk result (IsTrue
             ((meaning self.now).kind.accepts (meaning self.now).state.bytes)) }
+        ensures size { OnOk result (length (meaning self.now).state.bytes ≤ 16777216) }
         ensures front { StartsWith into.new.items into.old.items };
 
     /// Whether `state` is the bytes of some state of the kind. It has at most 16,777,216 bytes

@@ -13,7 +13,7 @@ mod table;
 
 pub use answers::{Took, What};
 pub use keeping::KeptBytes;
-pub use lines::Line;
+pub use lines::{Line, may_open, opening_in};
 pub use offsets::{OFFSET_BOUND, Offset};
 pub use openings::{Incarnation, Opening};
 pub use table::{Entry, Tracker};

@@ -269,14 +269,14 @@ pub(crate) fn is_refusal(segment: &TcpView) -> bool
 
 /// Says whether a segment has SYN and ACK and no RST.
 #[tactic(auto, unfolding(crate::specs::Segments::may_open))]
-pub(crate) fn may_open(segment: &TcpView) -> bool
+pub fn may_open(segment: &TcpView) -> bool
     ensures { result ≡ may_open segment.now }
 {
     segment.has_syn() && (segment.has_ack() && !segment.has_rst())
 }
 
 /// The opening that a segment makes.
-pub(crate) fn opening_in(segment: &TcpView) -> Opening
+pub fn opening_in(segment: &TcpView) -> Opening
     ensures { result ≡ opening_in segment.now }
 {
     Opening {

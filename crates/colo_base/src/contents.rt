@@ -1,37 +1,36 @@
-//! The bytes of a frame, as a value of their own.
+//! The bytes of a frame, or of another part of a message, as a value of their own.
 
 ghost use Rattle.std.specs.Prelude.{◌≡◌};
 
 use std::marker::Model;
 
-/// The bytes of a frame, which contracts see as a list.
-#[derive(Drop)]
-pub struct FrameBytes {
+/// The bytes of a frame, or of another part of a message, which contracts see as a list.
+#[derive(Debug, Drop)]
+pub struct Contents {
     bytes: Vec<u8>,
 }
 
-impl Model for FrameBytes {
+impl Model for Contents {
     ghost use Rattle.std.specs.Prelude.{List, ℕ};
 
     ghost Value = { List ℕ };
 
-    ghost view = { λ f. f.bytes.items };
+    ghost view = { λ c. c.bytes.items };
 }
 
-impl FrameBytes {
+impl Contents {
     /// The bytes of a vector. It takes no memory.
-    pub fn from_vec(bytes: Vec<u8>) -> FrameBytes
+    pub fn from_vec(bytes: Vec<u8>) -> Contents
         ensures { result ≡ bytes.items }
     {
-        FrameBytes { bytes }
+        Contents { bytes }
     }
 
     /// The bytes as a vector. It takes no memory.
     pub fn into_vec(self) -> Vec<u8>
         ensures { result.items ≡ self }
     {
-        let FrameBytes { bytes } = self;
-        bytes
+        self.bytes
     }
 
     /// The bytes as a slice.
