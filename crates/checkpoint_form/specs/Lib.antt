@@ -1,0 +1,4 @@
+pub mod State
+pub mod Inbox
+pub mod Rows
+pub mod Captured
