@@ -1,9 +1,7 @@
 -- What is heard: spellings of what is answered, and what stays of a checkpoint under way.
-use Rattle.std.proofs.Common.{◌≡◌, ℕ, suc, ◌≤◌, Bool, true, false, List, length, refl, sym, ap, ◌∙◌, arith, lit≤, subst, Option, Some, None, Result, Ok, Err, if◌then◌else◌}
+use Rattle.std.proofs.Common.{◌≡◌, ℕ, suc, ◌≤◌, Bool, true, false, List, length, refl, sym, ap, ◌∙◌, arith, lit≤, subst, Option, None, Result, Ok, Err, if◌then◌else◌}
 use Rattle.std.proofs.lemmas.Bool.{false≢true}
-use Rattle.std.specs.Prelude.{IsSome, IsTrue}
-use Rattle.inet_frame.specs.Counted.{tcp_in}
-use Rattle.inet_frame.specs.Fields.{TcpFields}
+use Rattle.std.specs.Prelude.{IsTrue}
 use Rattle.inet_frame.specs.declared.tuple.Tuple.{Tuple}
 use Rattle.tcp_track.specs.declared.openings.Opening.{Opening}
 use Rattle.state_wire.specs.Guest.{Kind}
@@ -17,7 +15,8 @@ use Rattle.colo_wire.specs.declared.messages.Message.{Message}
 use Rattle.colo_wire.specs.declared.messages.Message.TheVariants.{Frame, Number, Begin, State, Page, Disk, Write, Held, Line, Bytes, End, Known, Sent, Ack}
 use Rattle.frame_mirror.specs.Accepted.{is_accepted}
 use Rattle.kept_checkpoint.specs.Kept.{HasPageSize, Kept, begin_kept, fits, keep}
-use Rattle.node_secondary.specs.Answers.{IsAnswered, Reading}
+use Rattle.node_parts.specs.Reading.{Reading}
+use Rattle.node_secondary.specs.Answers.{IsAnswered}
 use Rattle.node_secondary.specs.Hearing.{IsOther, IsPart, hear_due, hear_part, is_due, is_due_at, is_due_within, keep_part, told, told_of}
 use Rattle.node_secondary.specs.Node.{IsLoadable, Node}
 use Rattle.node_secondary.specs.declared.under_way.UnderWay.{UnderWay}

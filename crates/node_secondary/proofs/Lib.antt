@@ -1,4 +1,3 @@
-pub mod ReadingLemmas
 pub mod TurnLemmas
 pub mod HearingLemmas
 pub mod RunLemmas

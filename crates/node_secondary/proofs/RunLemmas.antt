@@ -15,7 +15,8 @@ use Rattle.kept_checkpoint.proofs.FittingLemmas.{spells_begun, spells_fitting}
 use Rattle.node_secondary.specs.Calls.{Call, CountsAllTurns, Past, RunsFromTheLastEnd, after_call, after_calls, count_turns, heard, made, no_past, past_call, past_calls, past_heard, spelled, state_after}
 use Rattle.node_secondary.specs.Hearing.{commit, hear, hear_due, hear_part, is_due, is_due_at, is_due_begun, is_due_outside, is_due_within, keep_part, next_checkpoint}
 use Rattle.node_secondary.specs.Node.{Node}
-use Rattle.node_secondary.specs.Turns.{Turn, guest_turn, make_turn}
+use Rattle.node_parts.specs.Turns.{Turn}
+use Rattle.node_secondary.specs.Turns.{guest_turn, make_turn}
 use Rattle.node_secondary.specs.declared.under_way.UnderWay.{UnderWay}
 use Rattle.node_secondary.specs.declared.under_way.UnderWay.TheVariants.{Nothing, Begun, Heard}
 

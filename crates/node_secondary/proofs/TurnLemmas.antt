@@ -1,7 +1,6 @@
 -- What a guest sends, frame by frame.
-use Rattle.std.proofs.Common.{◌≡◌, ℕ, ◌+◌, ◌-◌, ◌%◌, Bool, List, [], ◌∷◌, ◌++◌, Option, Some, None, length, take, slice_get, refl, sym, ap, ◌∙◌, arith}
+use Rattle.std.proofs.Common.{◌≡◌, ℕ, ◌+◌, ◌-◌, ◌%◌, List, ◌++◌, Option, Some, None, length, take, slice_get, refl, sym, ap, ◌∙◌, arith}
 use Rattle.std.specs.Prelude.{IsSome, fold}
-use Rattle.std.specs.Option.{option_map}
 use Rattle.std.proofs.lemmas.List.{flat_map_more}
 use Rattle.std.proofs.lemmas.List.Sums.{fold_push}
 use Rattle.std.proofs.lemmas.Nat.{mod_below}
@@ -11,20 +10,13 @@ use Rattle.inet_frame.proofs.FieldLemmas.{length_fits}
 use Rattle.tcp_track.specs.Tracking.{Tracking, taken}
 use Rattle.frame_mirror.specs.declared.ring.Waiting.{Waiting}
 use Rattle.state_wire.proofs.BeginLemmas.{take_one}
-use Rattle.state_wire.specs.Guest.{IsFrame, Meaning, after_turn, sent_in, turn_of}
+use Rattle.state_wire.specs.Guest.{Meaning, after_turn, sent_in}
 use Rattle.colo_wire.specs.Spelling.{HasSpelling}
+use Rattle.colo_wire.specs.declared.messages.Message.{Message}
 use Rattle.colo_wire.specs.declared.messages.Message.TheVariants.{Sent}
+use Rattle.node_parts.specs.Turns.{Turn, left_frames, takes}
 use Rattle.node_secondary.specs.Node.{Node}
-use Rattle.node_secondary.specs.Turns.{Turn, frame_taken, given_frame, guest_turn, left_frames, make_turn, sent_message, sent_messages, taken_frame, takes}
-
--- a segment is a frame
-frame_by : (frame : List ℕ) (o : Option TcpFields) → tcp_in frame ≡ o → IsSome o → IsFrame frame
-frame_by frame None e some = absurd cc
-frame_by frame (Some t) e some =
-    let fits = length_fits frame t e in record { from = omega (arith, fits.0); to = fits.1 }
-
-pub frame_fits : (frame : List ℕ) → IsSome (tcp_in frame) → IsFrame frame
-frame_fits frame some = frame_by frame (tcp_in frame) refl some
+use Rattle.node_secondary.specs.Turns.{guest_turn, make_turn, sent_message, sent_messages}
 
 -- a frame that counts has a length that a message allows
 spelled_by : (frame : List ℕ) (o : Option TcpFields) → tcp_in frame ≡ o → IsSome (from_guest o) →
@@ -48,36 +40,25 @@ pub lines_more : (lines : Tracking) (frames : List (List ℕ)) (k : ℕ) (frame 
 lines_more lines frames k frame e =
     ap (fold taken lines) (take_one frames k frame e) ∙ fold_push taken lines (take k frames) frame
 
-pub waits_more : (waits frames : List (List ℕ)) (k : ℕ) (frame : List ℕ) → slice_get frames k ≡ Some frame →
+pub waits_more : (waits : List Message) (frames : List (List ℕ)) (k : ℕ) (frame : List ℕ) →
+    slice_get frames k ≡ Some frame →
     waits ++ sent_messages (take (k + 1) frames) ≡ (waits ++ sent_messages (take k frames)) ++ sent_message frame
 waits_more waits frames k frame e =
     ap (λ (xs : List (List ℕ)). waits ++ sent_messages xs) (take_one frames k frame e)
     ∙ sym (flat_map_more sent_message waits (take k frames) frame)
 
 -- what a turn leaves, from what its parts leave
-pub turn_made : (n : Node) (t : Turn) (wants : Bool) (frame : Option (List ℕ)) (guest : Meaning) (inbox : List Waiting)
-    (lines : Tracking) (waits : List (List ℕ)) → wants ≡ takes n.guest t.wants →
-    frame ≡ option_map (given_frame n.lines) (taken_frame wants n.inbox) →
-    guest ≡ after_turn n.guest (turn_of t.ticks frame t.requests t.steps) → inbox ≡ left_frames wants n.inbox →
-    lines ≡ fold taken n.lines (sent_in n.guest (turn_of t.ticks frame t.requests t.steps)) →
-    waits ≡ n.waits ++ sent_messages (sent_in n.guest (turn_of t.ticks frame t.requests t.steps)) →
+pub turn_made : (n : Node) (t : Turn) (guest : Meaning) (inbox : List Waiting) (sent : List (List ℕ))
+    (lines : Tracking) (waits : List Message) → sent ≡ sent_in n.guest (guest_turn n t) →
+    guest ≡ after_turn n.guest (guest_turn n t) → inbox ≡ left_frames (takes n.guest t.wants) n.inbox →
+    lines ≡ fold taken n.lines sent → waits ≡ n.waits ++ sent_messages sent →
     record n { guest = guest; inbox = inbox; lines = lines; waits = waits } ≡ make_turn n t
 unfolding make_turn
-turn_made n t wants frame guest inbox lines waits w f g i l m =
-    let given : frame ≡ option_map (given_frame n.lines) (frame_taken n t) =
-    f ∙ ap (λ (b : Bool). option_map (given_frame n.lines) (taken_frame b n.inbox)) w in
-    let g1 : guest ≡ after_turn n.guest (guest_turn n t) =
-    g ∙ ap (λ (x : Option (List ℕ)). after_turn n.guest (turn_of t.ticks x t.requests t.steps)) given in
-    let i1 : inbox ≡ left_frames (takes n.guest t.wants) n.inbox = i ∙ ap (λ (b : Bool). left_frames b n.inbox) w in
-    let l1 : lines ≡ fold taken n.lines (sent_in n.guest (guest_turn n t)) =
-    l ∙ ap (λ (x : Option (List ℕ)). fold taken n.lines (sent_in n.guest (turn_of t.ticks x t.requests t.steps)))
-    given in
-    let m1 : waits ≡ n.waits ++ sent_messages (sent_in n.guest (guest_turn n t)) =
-    m ∙ ap (λ (x : Option (List ℕ)). n.waits ++ sent_messages
-    (sent_in n.guest (turn_of t.ticks x t.requests t.steps))) given in
-    nodes_same n g1 i1 l1 m1
+turn_made n t guest inbox sent lines waits s g i l m =
+    nodes_same n g i (l ∙ ap (λ (x : List (List ℕ)). fold taken n.lines x) s)
+    (m ∙ ap (λ (x : List (List ℕ)). n.waits ++ sent_messages x) s)
   where
-    nodes_same : (n : Node) {a b : Meaning} {c d : List Waiting} {e f : Tracking} {x y : List (List ℕ)} →
+    nodes_same : (n : Node) {a b : Meaning} {c d : List Waiting} {e f : Tracking} {x y : List Message} →
         a ≡ b → c ≡ d → e ≡ f → x ≡ y →
         record n { guest = a; inbox = c; lines = e; waits = x }
         ≡ record n { guest = b; inbox = d; lines = f; waits = y }

@@ -8,7 +8,8 @@ use Rattle.colo_wire.specs.declared.messages.Message.TheVariants.{Frame, Number,
 use Rattle.kept_checkpoint.specs.Spelled.{spell}
 use Rattle.node_secondary.specs.Hearing.{hear, is_due}
 use Rattle.node_secondary.specs.Node.{Node}
-use Rattle.node_secondary.specs.Turns.{Turn, guest_turn, make_turn}
+use Rattle.node_parts.specs.Turns.{Turn}
+use Rattle.node_secondary.specs.Turns.{guest_turn, make_turn}
 use Rattle.node_secondary.specs.declared.under_way.UnderWay.TheVariants.{Nothing}
 
 pub data Call : Type 0 where

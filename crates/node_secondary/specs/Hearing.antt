@@ -1,6 +1,6 @@
 -- Hearing: which message is due when, and what each leaves and answers. What is heard of a
 -- checkpoint is kept apart until it is whole.
-use Rattle.std.specs.Prelude.{◌≡◌, ℕ, ◌+◌, ◌%◌, ◌^◌, Bool, true, false, not, ◌==◌, nat_lt, if◌then◌else◌, List, [], ◌∷◌, ◌++◌, length, Option, None, Some, unwrap_or, ⊤}
+use Rattle.std.specs.Prelude.{◌≡◌, ℕ, ◌+◌, ◌%◌, ◌^◌, Bool, true, false, not, ◌==◌, if◌then◌else◌, List, [], ◌∷◌, ◌++◌, Option, None, Some, unwrap_or, ⊤}
 use Rattle.inet_frame.specs.Counted.{client_tuple_of, tcp_in}
 use Rattle.inet_frame.specs.Fields.{TcpFields}
 use Rattle.inet_frame.specs.declared.tuple.Tuple.{Tuple}
@@ -12,7 +12,7 @@ use Rattle.frame_mirror.specs.Inboxes.{has_room}
 use Rattle.frame_mirror.specs.declared.ring.Waiting.{Waiting}
 use Rattle.state_wire.specs.Guest.{Kind}
 use Rattle.colo_wire.specs.Kinds.{number_of_kind}
-use Rattle.colo_wire.specs.Spelling.{kind_of, message_bytes}
+use Rattle.colo_wire.specs.Spelling.{kind_of}
 use Rattle.colo_wire.specs.declared.answers.Told.{Told}
 use Rattle.colo_wire.specs.declared.messages.Message.{Message}
 use Rattle.colo_wire.specs.declared.messages.Message.TheVariants.{Frame, Number, Begin, State, End, Known, Ack}
@@ -98,8 +98,7 @@ known_number numbers tuple client number =
 abbrev pub hear_number : Node → Tuple → ℕ → ℕ → Node
 hear_number n tuple client number = record n {
   numbers = keep_number n.numbers tuple client number;
-  waits = n.waits ++ message_bytes
-      (Known tuple client (known_number n.numbers tuple client number)) ∷ [];
+  waits = n.waits ++ Known tuple client (known_number n.numbers tuple client number) ∷ [];
 }
 
 -- the state of the checkpoint that has begun
@@ -126,7 +125,7 @@ commit n e (Heard kept) = record {
   inbox = kept.inbox;
   lines = kept_lines kept;
   numbers = kept.numbers;
-  waits = n.waits ++ message_bytes (Ack e) ∷ [];
+  waits = n.waits ++ Ack e ∷ [];
   committed = e;
   under_way = Nothing;
 }

@@ -1,5 +1,4 @@
 pub mod Node
-pub mod Outboxes
 pub mod Turns
 pub mod Hearing
 pub mod Answers

@@ -1,10 +1,11 @@
 -- A secondary as plain data: its guest, what its guest has sent, the numbers that it keeps, the
 -- frames and messages that wait, and what it has heard of a checkpoint that isn't whole yet.
-use Rattle.std.specs.Prelude.{ℕ, Bool, IsTrue, List, ⊤}
+use Rattle.std.specs.Prelude.{ℕ, Bool, true, false, IsTrue, List, ⊤}
 use Rattle.tcp_track.specs.Tracking.{Tracking}
 use Rattle.seq_rewriter.specs.Kept.{KeptNumbers}
 use Rattle.frame_mirror.specs.declared.ring.Waiting.{Waiting}
 use Rattle.state_wire.specs.Guest.{Kind, Meaning}
+use Rattle.colo_wire.specs.declared.messages.Message.{Message}
 use Rattle.node_secondary.specs.declared.under_way.UnderWay.{UnderWay}
 use Rattle.node_secondary.specs.declared.under_way.UnderWay.TheVariants.{Nothing, Begun, Heard}
 
@@ -15,7 +16,7 @@ pub record Held (G : Type 0) : Type 0 where
   pub inbox : List Waiting
   pub lines : Tracking
   pub numbers : KeptNumbers
-  pub waits : List (List ℕ)
+  pub waits : List Message
   pub committed : ℕ
   pub under_way : UnderWay
   pub spent : Bool
@@ -26,7 +27,7 @@ pub record Node : Type 0 where
   pub inbox : List Waiting
   pub lines : Tracking
   pub numbers : KeptNumbers
-  pub waits : List (List ℕ)
+  pub waits : List Message
   pub committed : ℕ
   pub under_way : UnderWay
 
@@ -40,6 +41,12 @@ node_of meaning held = record {
   committed = held.committed;
   under_way = held.under_way;
 }
+
+-- a checkpoint has begun that isn't whole yet
+abbrev pub is_under_way : UnderWay → Bool
+is_under_way Nothing = false
+is_under_way Begun = true
+is_under_way (Heard kept) = true
 
 -- guests of the kind accept the state that was heard
 abbrev pub IsLoadable : Kind → UnderWay → Type 0

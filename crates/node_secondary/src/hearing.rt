@@ -8,19 +8,20 @@ ghost use Rattle.colo_wire.specs.Spelling.{IsMessage, kind_of};
 ghost use Rattle.colo_wire.specs.declared.answers.HearFault.TheVariants as hear_fault;
 ghost use Rattle.node_secondary.specs.Node.{node_of};
 ghost use Rattle.node_secondary.specs.Hearing.{IsOther, commit, hear_due, hear_frame, hear_number, hear_state, is_due, told, told_of};
-ghost use Rattle.node_secondary.specs.Answers.{IsAnswered, Reading, Reads};
+ghost use Rattle.node_parts.specs.Reading.{Reading, Reads};
+ghost use Rattle.node_secondary.specs.Answers.{IsAnswered};
 ghost use Rattle.node_secondary.specs.declared.under_way.UnderWay.TheVariants as under_way;
 
 use crate::due::is_due;
 use crate::node::Secondary;
-use crate::parts::{begin_kept, keep_number, keep_part, put_frame, put_message, trim_lines};
-use crate::reading::read;
+use crate::parts::{begin_kept, keep_number, keep_part, put_frame, trim_lines};
 use crate::under_way::UnderWay;
 use colo_base::{Contents, Frames, NoMemory};
 use colo_wire::{HearFault, Message, Told, WireFault, kind_number};
 use frame_mirror::Waiting;
 use inet_frame::Tuple;
 use kept_checkpoint::{KeptCheckpoint, Tables};
+use node_parts::{count_parts, put_message, read};
 use state_wire::Guest;
 use std::mem;
 
@@ -240,7 +241,9 @@ impl<G: Guest + Drop> Secondary<G> {
         ensures unsaid { OnErr result (self.new.waits ≡ self.old.waits) }
         ensures still { self.new.spent ≡ self.old.spent }
     {
-        kept.load(&mut self.guest)?;
+        let loaded = kept.load(&mut self.guest);
+        count_parts(&self.guest);
+        loaded?;
         let Tables {
             inbox,
             lines,

@@ -3,13 +3,10 @@
 #![tactic(auto)]
 
 mod due;
-mod giving;
 mod hearing;
 pub mod law;
 mod node;
-mod outbox;
 mod parts;
-mod reading;
 mod telling;
 mod under_way;
 

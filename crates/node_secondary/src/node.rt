@@ -1,22 +1,22 @@
 //! A secondary.
 
 ghost use Rattle.std.specs.Prelude.{◌≡◌, ◌≤◌, ◌++◌, true, false, [], IsErr, IfOk, OnOk, OnErr, None, fold};
-ghost use Rattle.std.specs.Option.{ForSome, option_copied, option_map};
-ghost use Rattle.state_wire.specs.Guest.{CanReceive, IsFrame, after_turn, sent_in, turn_of};
-ghost use Rattle.tcp_track.specs.Tracking.{nothing_tracked, taken};
+ghost use Rattle.std.specs.Option.{option_map};
+ghost use Rattle.tcp_track.specs.Tracking.{nothing_tracked};
 ghost use Rattle.colo_wire.specs.declared.answers.Turned.TheVariants as turned;
-ghost use Rattle.node_secondary.specs.Node.{node_of};
-ghost use Rattle.node_secondary.specs.Outboxes.{TakesFirst};
+ghost use Rattle.node_secondary.specs.Node.{is_under_way, node_of};
+ghost use Rattle.frame_mirror.specs.Inboxes.{AreAccepted};
+ghost use Rattle.node_parts.specs.Counts.{HasCounts};
+ghost use Rattle.node_parts.specs.Outboxes.{TakesFirst};
 ghost use Rattle.node_secondary.specs.declared.under_way.UnderWay.TheVariants as under_way;
-ghost use Rattle.node_secondary.specs.Turns.{frame_taken, make_turn, sent_messages, takes};
+ghost use Rattle.node_secondary.specs.Turns.{frame_taken, make_turn};
 
-use crate::giving::{bytes_of, take_frame};
-use crate::outbox::Outbox;
 use crate::telling::tell_all;
 use crate::under_way::UnderWay;
 use colo_base::{Cause, Frames, NoMemory};
 use colo_wire::Turned;
 use frame_mirror::Inbox;
+use node_parts::{Outbox, count_parts, make_turn};
 use seq_rewriter::Numbers;
 use state_wire::Guest;
 use std::alloc::Global;
@@ -42,6 +42,7 @@ pub struct Secondary<G: Guest + Drop> {
 impl<G: Guest + Drop> Model for Secondary<G> {
     ghost use Rattle.std.specs.Prelude.{◌≡◌};
     ghost use Rattle.frame_mirror.specs.Inboxes.{AreAccepted};
+    ghost use Rattle.node_parts.specs.Counts.{HasCounts};
     ghost use Rattle.node_secondary.specs.Node.{Held, IsLoadable};
 
     ghost Value = { Held G };
@@ -58,40 +59,7 @@ impl<G: Guest + Drop> Model for Secondary<G> {
     } };
 
     ghost invariant = { λ s. AreAccepted s.inbox
-        × IsLoadable (G.meaning s.guest).kind s.under_way };
-}
-
-/// Whether the guest takes a frame, where one is wanted.
-fn wants_frame<G: Guest + Drop>(guest: &G, i: bool) -> bool
-    ensures { result ≡ takes (G.meaning guest.now) i }
-{
-    i && guest.can_receive()
-}
-
-/// Makes a turn of the guest, follows what it sends, and puts messages about it.
-fn turn_guest<G: Guest + Drop>(
-    alloc: Global,
-    guest: &mut G,
-    turn: (u64, u32, u32),
-    frame: Option<&[u8]>,
-    lines: &mut Tracker,
-    waits: &mut Outbox,
-) -> Result<(), NoMemory>
-    requires frame { ForSome frame (λ bytes. IsFrame bytes.now) }
-    requires receives { CanReceive (G.meaning guest.old) (option_copied frame) }
-    requires requests { turn.1 ≤ 256 }
-    requires steps { turn.2 ≤ 100000 }
-    ensures guest { OnOk result (G.meaning guest.new ≡ after_turn (G.meaning guest.old)
-        (turn_of turn.0 (option_copied frame.entry) turn.1 turn.2)) }
-    ensures lines { OnOk result (lines.new ≡ fold taken lines.old (sent_in (G.meaning guest.old)
-        (turn_of turn.0 (option_copied frame.entry) turn.1 turn.2))) }
-    ensures waits { OnOk result (waits.new ≡ waits.old ++ sent_messages (sent_in
-        (G.meaning guest.old) (turn_of turn.0 (option_copied frame.entry) turn.1 turn.2))) }
-    ensures kind { (G.meaning guest.new).kind ≡ (G.meaning guest.old).kind }
-{
-    let mut sent = Frames::new(alloc);
-    guest.turn(turn.0, frame, turn.1, turn.2, &mut sent)?;
-    tell_all(alloc, &sent, lines, waits)
+        × IsLoadable (G.meaning s.guest).kind s.under_way × HasCounts (G.meaning s.guest) };
 }
 
 impl<G: Guest + Drop> Secondary<G> {
@@ -108,6 +76,7 @@ impl<G: Guest + Drop> Secondary<G> {
           spent = false;
         }) }
     {
+        count_parts(&guest);
         let inbox = Inbox::new(alloc)?;
         Ok(Secondary {
             guest,
@@ -126,7 +95,6 @@ impl<G: Guest + Drop> Secondary<G> {
     /// given the oldest frame that waits; at most `b` block requests are served, and `n` steps are
     /// made. Each frame that the guest sends and that counts goes to the primary as a message, and
     /// none is released.
-    #[tactic(auto, using(crate::proofs::HearingLemmas::same_loadable))]
     pub fn turn(
         &mut self,
         d: u64,
@@ -154,22 +122,38 @@ impl<G: Guest + Drop> Secondary<G> {
         if self.spent {
             return Err(NoMemory);
         }
-        let wants = wants_frame(&self.guest, i);
-        let given = take_frame(wants, &self.lines, &mut self.inbox);
-        match turn_guest(
-            self.alloc,
-            &mut self.guest,
-            (d, b, n),
-            bytes_of(&given),
-            &mut self.lines,
-            &mut self.waits,
-        ) {
-            Ok(()) => Ok((Turned::Made(given.map(|g| g.index)), None)),
+        match self.make_turn((d, i, b, n)) {
+            Ok(index) => Ok((Turned::Made(index), None)),
             Err(NoMemory) => {
                 self.spent = true;
                 Err(NoMemory)
             }
         }
+    }
+
+    /// Makes a turn of the guest, follows what it sends, and puts messages about it. It gives the
+    /// index of the frame that the guest was given.
+    #[tactic(auto, using(crate::proofs::HearingLemmas::same_loadable))]
+    fn make_turn(&mut self, turn: (u64, bool, u32, u32)) -> Result<Option<u64>, NoMemory>
+        requires requests { turn.2 ≤ 256 }
+        requires steps { turn.3 ≤ 100000 }
+        ensures after { OnOk result (node_of G.meaning self.new ≡ make_turn
+            (node_of G.meaning self.old)
+            (record { ticks = turn.0; wants = turn.1; requests = turn.2; steps = turn.3 })) }
+        ensures index { IfOk result (λ index. index ≡ option_map (λ w. w.index)
+            (frame_taken (node_of G.meaning self.old)
+            (record { ticks = turn.0; wants = turn.1; requests = turn.2; steps = turn.3 }))) }
+        ensures still { self.new.spent ≡ self.old.spent }
+    {
+        let made = make_turn(
+            self.alloc,
+            &mut self.guest,
+            &mut self.inbox,
+            &self.lines,
+            turn,
+        )?;
+        tell_all(self.alloc, &made.sent, &mut self.lines, &mut self.waits)?;
+        Ok(made.index)
     }
 
     /// The oldest message to the primary that waits, spelled: `None` exactly where none waits. It
@@ -179,6 +163,19 @@ impl<G: Guest + Drop> Secondary<G> {
         ensures rest { self.new ≡ record self.old { waits = self.new.waits } }
     {
         self.waits.take()
+    }
+
+    /// Whether a checkpoint has begun that isn't whole yet. The guest has as many pages and sectors
+    /// as its kind says, and the frames that wait were accepted.
+    pub fn is_hearing(&self) -> bool
+        ensures value { result ≡ is_under_way self.now.under_way }
+        ensures counts { HasCounts (G.meaning self.now.guest) }
+        ensures accepted { AreAccepted self.now.inbox }
+    {
+        match &self.under_way {
+            UnderWay::Nothing => false,
+            UnderWay::Begun | UnderWay::Heard(_) => true,
+        }
     }
 
     /// The guest.

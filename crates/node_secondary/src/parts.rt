@@ -4,33 +4,21 @@ ghost use Rattle.std.specs.Prelude.{◌≡◌, ◌<◌, ◌++◌, ◌∷◌, [],
 ghost use Rattle.frame_mirror.specs.Accepted.{is_accepted};
 ghost use Rattle.frame_mirror.specs.Inboxes.{AreAccepted, has_room};
 ghost use Rattle.seq_rewriter.specs.Kept.{keep_number};
-ghost use Rattle.colo_wire.specs.Spelling.{HasSpelling, message_bytes};
 ghost use Rattle.colo_wire.specs.declared.messages.Message.TheVariants as message;
 ghost use Rattle.kept_checkpoint.specs.Kept.{HasPageSize, begin_kept};
 ghost use Rattle.node_secondary.specs.Hearing.{IsPart, keep_part, known_number, trim_lines, with_frame};
 
-use crate::outbox::Outbox;
 use crate::under_way::UnderWay;
 use colo_base::{Contents, NoMemory};
-use colo_wire::{Message, encode};
+use colo_wire::Message;
 use frame_mirror::{Inbox, Waiting, has_room, hold};
 use inet_frame::{Seen, Tuple, parse};
 use kept_checkpoint::KeptCheckpoint;
+use node_parts::{Outbox, put_message};
 use seq_rewriter::Numbers;
 use state_wire::Guest;
 use std::alloc::Global;
 use tcp_track::Tracker;
-
-/// Puts a message last. After `NoMemory` none is put.
-pub fn put_message(alloc: Global, message: &Message, waits: &mut Outbox) -> Result<(), NoMemory>
-    requires { HasSpelling message.now }
-    ensures ok { OnOk result (waits.new ≡ waits.old ++ message_bytes message.now ∷ []) }
-    ensures err { OnErr result (waits.new ≡ waits.old) }
-{
-    let mut bytes = Vec::new(alloc);
-    encode(message, &mut bytes)?;
-    waits.put(bytes)
-}
 
 /// Forgets what a client's frame trims of its connection's line. It takes no memory.
 pub fn trim_lines(lines: &mut Tracker, waiting: &Waiting)
@@ -73,8 +61,8 @@ pub fn keep_number(
     number: u32,
 ) -> Result<(), NoMemory>
     ensures numbers { OnOk result (numbers.new ≡ keep_number numbers.old tuple client number) }
-    ensures waits { OnOk result (waits.new ≡ waits.old ++ message_bytes (message.Known tuple client
-        (known_number numbers.old tuple client number)) ∷ []) }
+    ensures waits { OnOk result (waits.new ≡ waits.old ++ message.Known tuple client
+        (known_number numbers.old tuple client number) ∷ []) }
     ensures err { OnErr result (waits.new ≡ waits.old) }
 {
     let number = numbers.opened(&tuple, client, number)?;

@@ -3,15 +3,13 @@
 ghost use Rattle.std.specs.Prelude.{◌≡◌, ◌++◌, ◌∷◌, [], fold, IsSome, OnOk};
 ghost use Rattle.inet_frame.specs.Counted.{counted};
 ghost use Rattle.tcp_track.specs.Tracking.{taken};
-ghost use Rattle.colo_wire.specs.Spelling.{message_bytes};
 ghost use Rattle.colo_wire.specs.declared.messages.Message.TheVariants as message;
 ghost use Rattle.node_secondary.specs.Turns.{sent_message, sent_messages};
 
-use crate::outbox::Outbox;
-use crate::parts::put_message;
 use colo_base::{Contents, Frames, NoMemory};
 use colo_wire::Message;
 use inet_frame::counted;
+use node_parts::{Outbox, put_message};
 use std::alloc::Global;
 use tcp_track::Tracker;
 
@@ -19,7 +17,7 @@ use tcp_track::Tracker;
 #[tactic(auto, using(crate::proofs::TurnLemmas::sent_spelled))]
 fn tell_counted(alloc: Global, frame: &[u8], waits: &mut Outbox) -> Result<(), NoMemory>
     requires { IsSome (counted frame.now) }
-    ensures { OnOk result (waits.new ≡ waits.old ++ message_bytes (message.Sent frame.now) ∷ []) }
+    ensures { OnOk result (waits.new ≡ waits.old ++ message.Sent frame.now ∷ []) }
 {
     let message = Message::Sent {
         frame: Contents::from_vec(frame.to_vec(alloc)?),

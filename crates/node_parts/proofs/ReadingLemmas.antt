@@ -3,10 +3,11 @@ use Rattle.std.proofs.Common.{◌≡◌, ◌≢◌, ℕ, List, length, take, inl
 use Rattle.std.specs.Prelude.{Result, Ok, Err}
 use Rattle.std.proofs.Math.Seq.{take-length}
 use Rattle.colo_wire.specs.Faults.{IsFault, IsFirst}
+use Rattle.colo_wire.specs.Reader.{IsWhole}
 use Rattle.colo_wire.specs.declared.faults.WireFault.{WireFault}
 use Rattle.colo_wire.specs.declared.faults.WireFault.TheVariants.{More, Kind, Length, Field, NoMemory}
 use Rattle.colo_wire.specs.declared.messages.Message.{Message}
-use Rattle.node_secondary.specs.Answers.{IsWhole, Reading, Reads}
+use Rattle.node_parts.specs.Reading.{Reading, Reads}
 
 -- a message in front that takes all bytes is all of them
 pub whole_by : (m : Message) (k : ℕ) (bytes : List ℕ) → IsFirst m k bytes → k ≡ length bytes → IsWhole m bytes

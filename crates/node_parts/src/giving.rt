@@ -7,7 +7,7 @@ ghost use Rattle.tcp_track.specs.Tracking.{current_at};
 ghost use Rattle.state_wire.specs.Guest.{IsFrame};
 ghost use Rattle.frame_mirror.specs.Accepted.{is_accepted};
 ghost use Rattle.frame_mirror.specs.Inboxes.{AreAccepted};
-ghost use Rattle.node_secondary.specs.Turns.{current_for, given_frame, left_frames, taken_frame};
+ghost use Rattle.node_parts.specs.Turns.{current_for, frame_for, left_frames, taken_frame};
 
 use frame_mirror::{Inbox, Waiting};
 use inet_frame::{Seen, Tuple, parse};
@@ -16,7 +16,7 @@ use tcp_track::{Opening, Tracker};
 
 /// A client frame as a guest is given it.
 #[derive(Drop)]
-pub struct Given {
+pub(crate) struct Given {
     /// Its index in the client stream.
     pub index: u64,
     /// Its bytes.
@@ -43,9 +43,9 @@ fn current_for(lines: &Tracker, frame: &[u8]) -> Option<Opening>
 
 /// The bytes of a waiting frame as the guest's own numbering wants them. It takes no memory.
 #[tactic(auto, using(frame_mirror::proofs::AcceptLemmas::accepted_is_segment))]
-fn given_frame(lines: &Tracker, waiting: Waiting) -> Vec<u8>
+fn frame_for(lines: &Tracker, waiting: Waiting) -> Vec<u8>
     requires { is_accepted waiting.frame ≡ true }
-    ensures bytes { result.items ≡ given_frame lines.now waiting }
+    ensures bytes { result.items ≡ frame_for lines.now waiting }
     ensures still_tcp { IsSome (tcp_in result.items) }
 {
     let mut frame = waiting.frame.into_vec();
@@ -56,10 +56,10 @@ fn given_frame(lines: &Tracker, waiting: Waiting) -> Vec<u8>
 
 /// Takes the oldest frame that waits, if one is wanted, as the guest is given it. It takes no
 /// memory.
-pub fn take_frame(wants: bool, lines: &Tracker, inbox: &mut Inbox) -> Option<Given>
+pub(crate) fn take_frame(wants: bool, lines: &Tracker, inbox: &mut Inbox) -> Option<Given>
     requires { AreAccepted inbox.old }
     ensures given { option_map (λ g. g.frame.items) result
-        ≡ option_map (given_frame lines.now) (taken_frame wants inbox.old) }
+        ≡ option_map (frame_for lines.now) (taken_frame wants inbox.old) }
     ensures index { option_map (λ g. g.index) result
         ≡ option_map (λ w. w.index) (taken_frame wants inbox.old) }
     ensures left { inbox.new ≡ left_frames wants inbox.old }
@@ -73,13 +73,13 @@ pub fn take_frame(wants: bool, lines: &Tracker, inbox: &mut Inbox) -> Option<Giv
     let index = waiting.index;
     Some(Given {
         index,
-        frame: given_frame(lines, waiting),
+        frame: frame_for(lines, waiting),
     })
 }
 
 /// The bytes of a given frame, if there is one.
-#[tactic(auto, using(crate::proofs::TurnLemmas::frame_fits))]
-pub fn bytes_of(given: &Option<Given>) -> Option<&[u8]>
+#[tactic(auto, using(crate::proofs::FrameLemmas::frame_fits))]
+pub(crate) fn bytes_of(given: &Option<Given>) -> Option<&[u8]>
     requires { IfSome given.now (λ g. IsSome (tcp_in g.frame.items)) }
     ensures bytes { option_copied result ≡ option_map (λ g. g.frame.items) given.now }
     ensures frame { ForSome result (λ bytes. IsFrame bytes.now) }

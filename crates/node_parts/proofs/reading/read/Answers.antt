@@ -1,6 +1,6 @@
 -- Of any reading of the bytes, what is answered is that reading.
-use Rattle.node_secondary.proofs.ReadingLemmas.{read_fault, read_followed, read_whole}
-use Rattle.node_secondary.proofs.reading.read.Goals as goal
+use Rattle.node_parts.proofs.ReadingLemmas.{read_fault, read_followed, read_whole}
+use Rattle.node_parts.proofs.reading.read.Goals as goal
 
 pub returns-in-Err-clause-each : goal.returns-in-Err-clause-each
 returns-in-Err-clause-each c reading h ne =

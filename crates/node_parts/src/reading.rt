@@ -1,8 +1,9 @@
 //! Bytes, read as one whole message.
 
 ghost use Rattle.std.specs.Prelude.{◌≡◌, ◌≢◌, Err, IfErr, IfOk};
+ghost use Rattle.colo_wire.specs.Reader.{IsWhole};
 ghost use Rattle.colo_wire.specs.declared.faults.WireFault.TheVariants.{NoMemory};
-ghost use Rattle.node_secondary.specs.Answers.{IsWhole, Reading, Reads};
+ghost use Rattle.node_parts.specs.Reading.{Reading, Reads};
 
 use colo_wire::{Message, WireFault, decode};
 use std::alloc::Global;

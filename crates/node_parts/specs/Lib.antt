@@ -1,0 +1,4 @@
+pub mod Reading
+pub mod Outboxes
+pub mod Counts
+pub mod Turns
