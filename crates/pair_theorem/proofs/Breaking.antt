@@ -1,5 +1,6 @@
--- The nine parts by name, and what it is that a log breaks one of them and no other.
-use Rattle.std.proofs.Common.{◌≡◌, ◌⊎◌, inl, inr, ℕ, ◌≤◌, ◌==◌, ◌||◌, nat_le, eqb-true, Bool, true, false, List, [], ◌∷◌, Option, Some, slice_get, unwrap_or, refl, sym, ap, subst, ◌∙◌, true≢false, le-leb}
+-- The nine parts by name, and what it is that a log breaks one of them and no other. Of Prompt these are the two sentences
+-- on symbols and acknowledgements: each other frame breaks the first, that exactly the settled frames go out.
+use Rattle.std.proofs.Common.{◌≡◌, ◌⊎◌, inl, inr, ℕ, ◌≤◌, ◌==◌, ◌||◌, nat_le, eqb-true, Bool, true, false, List, [], ◌∷◌, ◌++◌, Option, Some, slice_get, unwrap_or, refl, sym, ap, subst, ◌∙◌, true≢false, le-leb}
 use Rattle.std.proofs.lemmas.Bool.{both_ways, or_cases}
 use Rattle.std.specs.Prelude.{All, IsTrue}
 use Rattle.std.specs.List.{list_all}
@@ -9,15 +10,16 @@ use Rattle.inet_build.specs.Segment.{fields_of}
 use Rattle.tcp_track.specs.Offsets.{distance}
 use Rattle.tcp_track.specs.Segments.{Symbol, symbol_in}
 use Rattle.tcp_track.specs.Stands.{Stands, stands, acked_in}
-use Rattle.pair_theorem.specs.FrameParts.{AcksPart, IsAcked, IsStandingRefusal, NumbersPart, PlaceAcks, PlaceStands, PromptPart, ShapePart, StandsPart, SymbolsStand, Syn, event_acks, is_released, same_number_shown, syns}
-use Rattle.pair_theorem.specs.History.{entries, lines_of}
+use Rattle.pair_theorem.specs.FrameParts.{AcksPart, IsAcked, IsStandingRefusal, NumbersPart, PlaceAcks, PlaceStands, ShapePart, ShowsAgreed, StandsPart, SymbolsStand, Syn, event_acks, is_judged, is_released, same_number_shown, syns}
+use Rattle.pair_theorem.specs.History.{entries, lines_of, pair_log}
 use Rattle.replay_log.specs.declared.lines.Line.{Line}
-use Rattle.pair_theorem.specs.LogParts.{FilesPart, LogPart, MarksPart, NamesPart, Nodes, OutFiles, accepted_indices, files_of, is_accounted_for, nodes_at}
+use Rattle.pair_theorem.specs.LogParts.{FilesPart, LogPart, MarksPart, NamesPart, Nodes, OutFiles, accepted_indices, files_of, inbox_indices, is_accounted_for, nodes_at}
 use Rattle.pair_theorem.specs.Past.{Agreed, Start, Step}
-use Rattle.pair_theorem.specs.Places.{Event, Place, events, places}
+use Rattle.pair_theorem.specs.Places.{Event, Place, delivered_due, delivered_in, events, places, released_due, released_in}
 use Rattle.pair_theorem.specs.TheRun.{run_segments}
 use Rattle.pair_theorem.specs.Theorem.{IsOneRun}
 use Rattle.pair_theorem.proofs.AllLemmas.{All_at, All_from, list_all_from}
+use Rattle.pair_theorem.proofs.EachLog.{frames_are, lines_of-pair_log, messages_are}
 use Rattle.pair_theorem.proofs.PartTests.{all_shown, event_releases, missing_test, symbols_test, last_acks_test, log_test, names_test, shape_test, stands_test, numbers_test, acks_test, files_test, prompt_test, marks_test, log_from, names_from, shape_from, stands_from, numbers_from, acks_from, files_from, prompt_from, marks_from}
 use Rattle.pair_theorem.proofs.StandsTests.{stands_true}
 
@@ -48,7 +50,7 @@ Part stands_part x = StandsPart x.start x.steps
 Part numbers_part x = NumbersPart x.start x.steps
 Part acks_part x = AcksPart x.start x.steps
 Part files_part x = FilesPart x.start x.steps x.nodes x.out
-Part prompt_part x = PromptPart x.start x.steps
+Part prompt_part x = ShowsAgreed x.start x.steps
 Part marks_part x = MarksPart x.start x.steps
 
 abbrev pub place_of : PartName → ℕ
@@ -92,11 +94,18 @@ pub stands_breaks : (a : Start) (steps : List Step) (k : ℕ) (p : Place) (clien
     → p.number ≡ Some number → symbol_in number (fields_of p.segment p.payload) o ≡ Some x
     → stands (run_segments a (entries steps)) p.segment.tuple client o x ≡ false → StandsPart a steps → ⊥
 stands_breaks a steps k p client number o x at plain c n carries test h =
-    by (All_at (PlaceStands (run_segments a (entries steps))) (places a steps) k p h at)
+    by (All_at (PlaceStands (run_segments a (entries steps))) (places a steps) k p h at).stands
   where
-    by : PlaceStands (run_segments a (entries steps)) p → ⊥
+    by : IsStandingRefusal (run_segments a (entries steps)) p.segment ⊎ SymbolsStand (run_segments a (entries steps)) p
+        → ⊥
     by (inl r) = refusal_is_reset (run_segments a (entries steps)) p plain r
     by (inr s) = symbols_break (run_segments a (entries steps)) p client number o x c n carries test s
+
+-- and by a payload that is judged by nothing
+pub payload_breaks : (a : Start) (steps : List Step) (k : ℕ) (p : Place) → slice_get (places a steps) k ≡ Some p
+    → is_judged p ≡ false → StandsPart a steps → ⊥
+payload_breaks a steps k p at test h =
+    both_ways (is_judged p) test (All_at (PlaceStands (run_segments a (entries steps))) (places a steps) k p h at).judged
 
 -- ACKS is broken by one acknowledgement that is too great
 ack_breaks : (sent : List TcpFields) (p : Place) (client : ℕ) → p.client ≡ Some client
@@ -124,8 +133,8 @@ pub names_break : (a : Start) (steps : List Step) → missing_test a steps ≡ f
 unfolding missing_test
 names_break a steps e h =
     both_ways (missing_test a steps) e
-    (list_all_from (λ i. IsTrue (is_accounted_for a steps i)) (is_accounted_for a steps) (accepted_indices steps)
-    (λ i g. g) h.missing)
+    (list_all_from (λ i. IsTrue (is_accounted_for a steps i)) (is_accounted_for a steps)
+    (inbox_indices a.inbox ++ accepted_indices steps) (λ i g. g) h.missing)
 
 pub numbers_break : (a : Start) (steps : List Step) → numbers_test a steps ≡ false → NumbersPart a steps → ⊥
 unfolding numbers_test
@@ -137,7 +146,7 @@ numbers_break a steps e h =
     (λ x g. list_all_from (λ (y : Syn). IsTrue (same_number_shown sent x y)) (same_number_shown sent x) (syns a steps)
     (λ y f. f) g) h)
 
-pub prompt_breaks : (a : Start) (steps : List Step) → symbols_test a steps ≡ false → PromptPart a steps → ⊥
+pub prompt_breaks : (a : Start) (steps : List Step) → symbols_test a steps ≡ false → ShowsAgreed a steps → ⊥
 unfolding symbols_test event_releases
 prompt_breaks a steps e h =
     both_ways (symbols_test a steps) e
@@ -146,7 +155,7 @@ prompt_breaks a steps e h =
     (λ x g. list_all_from (λ (z : Agreed). IsTrue (is_released x.step.released z)) (is_released x.step.released)
     x.outcome.agreed (λ z f. f) g) h.symbols)
 
-pub last_ack_breaks : (a : Start) (steps : List Step) → last_acks_test a steps ≡ false → PromptPart a steps → ⊥
+pub last_ack_breaks : (a : Start) (steps : List Step) → last_acks_test a steps ≡ false → ShowsAgreed a steps → ⊥
 unfolding last_acks_test
 last_ack_breaks a steps e h =
     both_ways (last_acks_test a steps) e
@@ -176,17 +185,17 @@ test_of prompt_part a steps = prompt_test a steps
 test_of marks_part a steps = marks_test a steps
 
 pub part_from : (q : PartName) (a : Start) (lines : List Line) (steps : List Step) → lines_of steps ≡ lines
-    → test_of q a steps ≡ true → Part q (told_log a lines steps)
+    → delivered_in steps ≡ delivered_due (events a steps) → test_of q a steps ≡ true → Part q (told_log a lines steps)
 unfolding test_of told_log
-part_from log_part a lines steps s e = log_from lines steps s e
-part_from names_part a lines steps s e = names_from a steps e
-part_from shape_part a lines steps s e = shape_from a steps e
-part_from stands_part a lines steps s e = stands_from a steps e
-part_from numbers_part a lines steps s e = numbers_from a steps e
-part_from acks_part a lines steps s e = acks_from a steps e
-part_from files_part a lines steps s e = files_from a steps e
-part_from prompt_part a lines steps s e = prompt_from a steps e
-part_from marks_part a lines steps s e = marks_from a steps e
+part_from log_part a lines steps s d e = log_from lines steps s e
+part_from names_part a lines steps s d e = names_from a steps e
+part_from shape_part a lines steps s d e = shape_from a steps e
+part_from stands_part a lines steps s d e = stands_from a steps e
+part_from numbers_part a lines steps s d e = numbers_from a steps e
+part_from acks_part a lines steps s d e = acks_from a steps e
+part_from files_part a lines steps s d e = files_from a steps d e
+part_from prompt_part a lines steps s d e = prompt_from a steps e
+part_from marks_part a lines steps s d e = marks_from a steps e
 
 abbrev pub all_parts : List PartName
 all_parts =
@@ -228,30 +237,36 @@ other_test p q b n e = by (or_cases (place_of q == place_of p) b e)
 
 -- a log that passes the tests of the other parts has these parts
 pub others_from : (p : PartName) (a : Start) (lines : List Line) (steps : List Step) → lines_of steps ≡ lines
-    → passes_others p a steps ≡ true → (q : PartName) → (place_of q ≡ place_of p → ⊥) → Part q (told_log a lines steps)
+    → delivered_in steps ≡ delivered_due (events a steps) → passes_others p a steps ≡ true → (q : PartName) → (place_of q ≡ place_of p → ⊥) → Part q (told_log a lines steps)
 unfolding passes_others
-others_from p a lines steps s e q n =
-    part_from q a lines steps s (other_test p q (test_of q a steps) n
+others_from p a lines steps s d e q n =
+    part_from q a lines steps s d (other_test p q (test_of q a steps) n
     (test_at (λ (r : PartName). place_of r == place_of p || test_of r a steps) e q))
 
 -- the nine parts, of a log with the nodes and the files of its history
 abbrev pub OneRun : Start → List Line → List Step → Type 0
 OneRun a lines steps = IsOneRun a lines steps (nodes_at a steps) (files_of steps (nodes_at a steps))
 
--- a log that passes all tests names one run
-pub one_run_from : (a : Start) (lines : List Line) (steps : List Step) → lines_of steps ≡ lines
+-- the log of a schedule that passes all tests names one run
+pub one_run_from : (a : Start) (lines : List Line) (steps : List Step) → steps ≡ pair_log a lines
     → passes_all a steps ≡ true → OneRun a lines steps
 unfolding passes_all test_of
-one_run_from a lines steps s e =
+one_run_from a lines steps own e =
     let test = test_at (λ (q : PartName). test_of q a steps) e in
+    let through : lines_of steps ≡ lines = ap (λ (xs : List Step). lines_of xs) own ∙ lines_of-pair_log a lines in
     record {
-      log = log_from lines steps s (test log_part);
+      log = log_from lines steps through (test log_part);
       names = names_from a steps (test names_part);
       shape = shape_from a steps (test shape_part);
       stands = stands_from a steps (test stands_part);
       numbers = numbers_from a steps (test numbers_part);
       acks = acks_from a steps (test acks_part);
-      files = files_from a steps (test files_part);
-      prompt = prompt_from a steps (test prompt_part);
+      files = files_from a steps (subst (λ (xs : List Step). delivered_in xs ≡ delivered_due (events a xs)) (sym own)
+          (messages_are a lines)) (test files_part);
+      prompt = record {
+        settled = subst (λ (xs : List Step). released_in xs ≡ released_due (events a xs)) (sym own)
+            (frames_are a lines);
+        shows = prompt_from a steps (test prompt_part);
+      };
       marks = marks_from a steps (test marks_part);
     }

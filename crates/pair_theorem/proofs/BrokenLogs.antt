@@ -19,7 +19,7 @@ use Rattle.replay_log.specs.declared.records.Mark.{Mark}
 use Rattle.replay_log.specs.declared.records.Mark.TheVariants.{Captured}
 use Rattle.pair_theorem.specs.LogParts.{causes_in, counts_released, counts_stated, marks_that, LogPart, MarksPart, capture_marks, is_captured, nodes_at, survivor_state}
 use Rattle.pair_theorem.specs.Past.{Start, Step, boot}
-use Rattle.pair_theorem.specs.Places.{Place, events, places}
+use Rattle.pair_theorem.specs.Places.{Place, delivered_due, delivered_in, events, places}
 use Rattle.pair_theorem.specs.TheRun.{run_segments}
 use Rattle.pair_theorem.proofs.Breaking.{PartName, log_part, names_part, shape_part, stands_part, numbers_part, acks_part, files_part, prompt_part, marks_part, BreaksOnly, Part, Told, place_of, told_log, passes_others, others_from, stands_breaks, acks_break, names_break, numbers_break, prompt_breaks}
 use Rattle.pair_theorem.proofs.AllLemmas.{All_at}
@@ -64,6 +64,10 @@ byte_lines : lines_of byte_steps ≡ two_cuts_lines
 unfolding byte_steps
 byte_lines = refl
 
+byte_delivered : delivered_in byte_steps ≡ delivered_due (events worked_start byte_steps)
+unfolding byte_steps events
+byte_delivered = refl
+
 byte_others : passes_others stands_part worked_start byte_steps ≡ true
 unfolding byte_steps passes_others
 byte_others = refl
@@ -76,7 +80,7 @@ pub a_byte_that_no_guest_sent : BreaksOnly stands_part (told_log worked_start tw
 unfolding told_log
 a_byte_that_no_guest_sent = record {
   broken = byte_broken;
-  others = others_from stands_part worked_start two_cuts_lines byte_steps byte_lines byte_others;
+  others = others_from stands_part worked_start two_cuts_lines byte_steps byte_lines byte_delivered byte_others;
 }
 
 -- LOG: an answer that states one frame more than was released
@@ -87,6 +91,10 @@ count_steps = edit_at 11 (with_answer (HeardBack 13 3 2)) (pair_log worked_start
 count_lines : lines_of count_steps ≡ two_cuts_lines
 unfolding count_steps
 count_lines = refl
+
+count_delivered : delivered_in count_steps ≡ delivered_due (events worked_start count_steps)
+unfolding count_steps events
+count_delivered = refl
 
 count_others : passes_others log_part worked_start count_steps ≡ true
 unfolding count_steps passes_others
@@ -110,7 +118,7 @@ pub a_frame_that_was_not_released : BreaksOnly log_part (told_log worked_start t
 unfolding told_log
 a_frame_that_was_not_released = record {
   broken = count_broken;
-  others = others_from log_part worked_start two_cuts_lines count_steps count_lines count_others;
+  others = others_from log_part worked_start two_cuts_lines count_steps count_lines count_delivered count_others;
 }
 
 -- NAMES: a frame that the pair accepted and the run never took, over guests whose state holds no frame
@@ -133,6 +141,10 @@ deaf_lines : lines_of deaf_steps ≡ opening_lines
 unfolding deaf_steps
 deaf_lines = refl
 
+deaf_delivered : delivered_in deaf_steps ≡ delivered_due (events deaf_start deaf_steps)
+unfolding deaf_steps events deaf_start
+deaf_delivered = refl
+
 deaf_others : passes_others names_part deaf_start deaf_steps ≡ true
 unfolding deaf_start deaf_steps passes_others
 deaf_others = refl
@@ -145,7 +157,7 @@ pub a_frame_that_the_run_never_took : BreaksOnly names_part (told_log deaf_start
 unfolding told_log
 a_frame_that_the_run_never_took = record {
   broken = names_break deaf_start deaf_steps deaf_missing;
-  others = others_from names_part deaf_start opening_lines deaf_steps deaf_lines deaf_others;
+  others = others_from names_part deaf_start opening_lines deaf_steps deaf_lines deaf_delivered deaf_others;
 }
 
 -- SHAPE: a segment to a MAC address of no byte
@@ -162,6 +174,10 @@ shape_steps = edit_at 11 (with_released (no_mac_out ∷ [])) (pair_log worked_st
 shape_lines : lines_of shape_steps ≡ two_cuts_lines
 unfolding shape_steps
 shape_lines = refl
+
+shape_delivered : delivered_in shape_steps ≡ delivered_due (events worked_start shape_steps)
+unfolding shape_steps events
+shape_delivered = refl
 
 shape_others : passes_others shape_part worked_start shape_steps ≡ true
 unfolding shape_steps passes_others
@@ -195,7 +211,7 @@ pub a_segment_without_a_mac : BreaksOnly shape_part (told_log worked_start two_c
 unfolding told_log
 a_segment_without_a_mac = record {
   broken = shape_at (slice_get shape_steps 11) refl shape_frames;
-  others = others_from shape_part worked_start two_cuts_lines shape_steps shape_lines shape_others;
+  others = others_from shape_part worked_start two_cuts_lines shape_steps shape_lines shape_delivered shape_others;
 }
 
 -- NUMBERS: the SYN again, under another number
@@ -211,6 +227,10 @@ numbers_lines : lines_of numbers_steps ≡ again_lines
 unfolding numbers_steps
 numbers_lines = refl
 
+numbers_delivered : delivered_in numbers_steps ≡ delivered_due (events worked_start numbers_steps)
+unfolding numbers_steps events
+numbers_delivered = refl
+
 numbers_others : passes_others numbers_part worked_start numbers_steps ≡ true
 unfolding numbers_steps passes_others
 numbers_others = refl
@@ -223,7 +243,7 @@ pub two_numbers_for_one_opening : BreaksOnly numbers_part (told_log worked_start
 unfolding told_log
 two_numbers_for_one_opening = record {
   broken = numbers_break worked_start numbers_steps numbers_differ;
-  others = others_from numbers_part worked_start again_lines numbers_steps numbers_lines numbers_others;
+  others = others_from numbers_part worked_start again_lines numbers_steps numbers_lines numbers_delivered numbers_others;
 }
 
 -- ACKS: an acknowledgement that is too great, in a segment that is not the last of its event
@@ -238,6 +258,10 @@ acks_steps =
 acks_lines : lines_of acks_steps ≡ stop_before_end_lines
 unfolding acks_steps
 acks_lines = refl
+
+acks_delivered : delivered_in acks_steps ≡ delivered_due (events worked_start acks_steps)
+unfolding acks_steps events
+acks_delivered = refl
 
 acks_others : passes_others acks_part worked_start acks_steps ≡ true
 unfolding acks_steps passes_others
@@ -254,7 +278,7 @@ pub an_acknowledgement_too_great : BreaksOnly acks_part (told_log worked_start s
 unfolding told_log
 an_acknowledgement_too_great = record {
   broken = acks_broken;
-  others = others_from acks_part worked_start stop_before_end_lines acks_steps acks_lines acks_others;
+  others = others_from acks_part worked_start stop_before_end_lines acks_steps acks_lines acks_delivered acks_others;
 }
 
 -- PROMPT: a byte that goes out one event late
@@ -268,6 +292,10 @@ late_lines : lines_of late_steps ≡ two_cuts_lines
 unfolding late_steps
 late_lines = refl
 
+late_delivered : delivered_in late_steps ≡ delivered_due (events worked_start late_steps)
+unfolding late_steps events
+late_delivered = refl
+
 late_others : passes_others prompt_part worked_start late_steps ≡ true
 unfolding late_steps passes_others
 late_others = refl
@@ -280,7 +308,7 @@ pub a_byte_released_late : BreaksOnly prompt_part (told_log worked_start two_cut
 unfolding told_log
 a_byte_released_late = record {
   broken = prompt_breaks worked_start late_steps late_symbols;
-  others = others_from prompt_part worked_start two_cuts_lines late_steps late_lines late_others;
+  others = others_from prompt_part worked_start two_cuts_lines late_steps late_lines late_delivered late_others;
 }
 
 -- MARKS: a checkpoint without a cause
@@ -291,6 +319,10 @@ mark_steps = edit_at 11 (with_marks (Captured 1 Wait ∷ [])) (pair_log worked_s
 mark_lines : lines_of mark_steps ≡ two_cuts_lines
 unfolding mark_steps
 mark_lines = refl
+
+mark_delivered : delivered_in mark_steps ≡ delivered_due (events worked_start mark_steps)
+unfolding mark_steps events
+mark_delivered = refl
 
 mark_others : passes_others marks_part worked_start mark_steps ≡ true
 unfolding mark_steps passes_others
@@ -317,7 +349,7 @@ pub a_checkpoint_without_a_cause : BreaksOnly marks_part (told_log worked_start 
 unfolding told_log
 a_checkpoint_without_a_cause = record {
   broken = mark_broken;
-  others = others_from marks_part worked_start two_cuts_lines mark_steps mark_lines mark_others;
+  others = others_from marks_part worked_start two_cuts_lines mark_steps mark_lines mark_delivered mark_others;
 }
 
 -- FILES: the memory of the other guest, over guests that write their clock to memory and send nothing
@@ -348,6 +380,10 @@ clock_lines_are : lines_of clock_steps ≡ clock_lines
 unfolding clock_steps
 clock_lines_are = refl
 
+clock_delivered : delivered_in clock_steps ≡ delivered_due (events clock_start clock_steps)
+unfolding clock_steps events clock_start
+clock_delivered = refl
+
 clock_passes : passes_others files_part clock_start clock_steps ≡ true
 unfolding clock_start clock_steps passes_others
 clock_passes = refl
@@ -361,7 +397,7 @@ swapped_log =
 
 clock_part : (q : PartName) → (place_of q ≡ place_of files_part → ⊥)
     → Part q (told_log clock_start clock_lines clock_steps)
-clock_part q n = others_from files_part clock_start clock_lines clock_steps clock_lines_are clock_passes q n
+clock_part q n = others_from files_part clock_start clock_lines clock_steps clock_lines_are clock_delivered clock_passes q n
 
 swapped_others : (q : PartName) → (place_of q ≡ place_of files_part → ⊥) → Part q swapped_log
 unfolding swapped_log told_log

@@ -4,7 +4,8 @@ use Rattle.std.specs.List.{range_with_len}
 use Rattle.settle_rules.specs.Pieces.{piece_at, piece_count}
 use Rattle.state_wire.specs.Guest.{GuestState}
 use Rattle.state_wire.specs.Script.{script_bytes}
-use Rattle.pair_theorem.specs.Checkpoint.{bytes_messages, disk_messages}
+use Rattle.checkpoint_form.specs.Rows.{bytes_messages}
+use Rattle.checkpoint_form.specs.State.{disk_messages}
 use Rattle.pair_theorem.specs.History.{entries, pair_log}
 use Rattle.replay_log.specs.declared.lines.Line.{Line}
 use Rattle.replay_log.specs.declared.lines.Line.TheVariants.{ToSecondary, Ask}

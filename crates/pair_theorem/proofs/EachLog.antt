@@ -1,4 +1,5 @@
--- Three parts hold of the log of each start and each schedule: Log, Marks, and both guests' turns.
+-- What holds of the log of each start and each schedule: Log, Marks, both guests' turns, and that frames and messages are
+-- those of the definitions.
 use Rattle.std.proofs.Common.{◌≡◌, ℕ, ◌+◌, ◌%◌, ◌^◌, List, [], ◌∷◌, ◌++◌, Bool, filter, flat_map, map, Option, None, Some, refl, sym, ap, ◌∙◌}
 use Rattle.std.proofs.Math.Nat.{mod-add-mod}
 use Rattle.std.proofs.lemmas.Grind.{fold-append}
@@ -15,8 +16,10 @@ use Rattle.replay_log.specs.declared.records.Record.{Record}
 use Rattle.pair_theorem.specs.LogParts.{GuestsPart, LogPart, MarksPart, ack_marks, capture_marks, causes_in, commit_marks, count_on, count_turn, counts_released, counts_stated, is_acknowledged, is_captured, is_committed, marks_that, nodes_at}
 use Rattle.colo_wire.specs.declared.messages.Message.{Message}
 use Rattle.pair_theorem.specs.Past.{Past, Start, Step, first_past}
-use Rattle.pair_theorem.specs.Places.{events, events_from}
+use Rattle.pair_theorem.specs.Places.{Event, delivered_due, delivered_in, events, events_from, released_due, released_in}
 use Rattle.splice_run.specs.Tokens.{Taken, made_by_primary, made_by_secondary}
+use Rattle.pair_theorem.specs.Theorem.{FrontsAreLogs}
+use Rattle.pair_theorem.proofs.HistoryLemmas.{pair_log-append}
 use Rattle.pair_theorem.proofs.EventFacts.{captured_mark, captures_after, event_facts}
 
 -- LOG
@@ -69,6 +72,33 @@ causes_are kind stream past released (x ∷ xs) =
     ap made (event_facts kind stream past x).line
     ∙ ap (λ (cs : List (Option Cause)). o.cause ∷ cs)
     (causes_are kind stream o.after (released ++ o.step.released) xs)
+
+-- FRAMES AND MESSAGES: what each step has is what the definitions make of its line
+due_from : {X : Type 0} (of_step : Step → X) (kind : Kind) (stream : List (List ℕ)) (past : Past)
+    (released : List Released) (lines : List Line) → map of_step (steps_from kind stream past lines)
+    ≡ map (λ (e : Event). of_step e.outcome.step)
+    (events_from kind stream past released (steps_from kind stream past lines))
+unfolding steps_from events_from
+due_from of_step kind stream past released [] = refl
+due_from {X} of_step kind stream past released (x ∷ xs) =
+    let o = outcome_of kind stream past x in
+    let rest = steps_from kind stream o.after xs in
+    let made : Line → List X =
+    λ l. let p = outcome_of kind stream past l in
+    of_step p.step ∷ map (λ (e : Event). of_step e.outcome.step)
+    (events_from kind stream p.after (released ++ o.step.released) rest) in
+    ap (λ (ys : List X). of_step o.step ∷ ys) (due_from of_step kind stream o.after (released ++ o.step.released) xs)
+    ∙ sym (ap made (event_facts kind stream past x).line)
+
+pub frames_are : (a : Start) (lines : List Line)
+    → released_in (pair_log a lines) ≡ released_due (events a (pair_log a lines))
+unfolding pair_log events
+frames_are a lines = due_from (λ (s : Step). s.released) a.kind a.stream (first_past a) [] lines
+
+pub messages_are : (a : Start) (lines : List Line)
+    → delivered_in (pair_log a lines) ≡ delivered_due (events a (pair_log a lines))
+unfolding pair_log events
+messages_are a lines = due_from (λ (s : Step). s.delivered) a.kind a.stream (first_past a) [] lines
 
 -- the number of the last capture is the count of the captures
 captures_so_far : ℕ → Option Cause → ℕ
@@ -150,10 +180,16 @@ turns_counted turned made counted kind stream past (x ∷ xs) =
     (λ (l : Line). count_on (turned past) (made l entry.answer)) (sym (event_facts kind stream past x).line))
     ∙ sym (fold-append count_turn (turned past) (made entry.line entry.answer) rest))
 
-past_is : (a : Start) (lines : List Line) → past_at a (pair_log a lines) ≡ past_from a.kind a.stream (first_past a)
+pub past_is : (a : Start) (lines : List Line) → past_at a (pair_log a lines) ≡ past_from a.kind a.stream (first_past a)
     lines
 unfolding past_at
 past_is a lines = ap (λ (xs : List Line). past_from a.kind a.stream (first_past a) xs) (lines_of-pair_log a lines)
+
+-- FRONTS
+pub fronts_are : FrontsAreLogs
+fronts_are a before later =
+    pair_log-append a before later
+    ∙ ap (λ (p : Past). pair_log a before ++ steps_from a.kind a.stream p later) (sym (past_is a before))
 
 pub guests_hold : (a : Start) (lines : List Line) → GuestsPart a (pair_log a lines) (nodes_at a (pair_log a lines))
 unfolding nodes_at pair_log

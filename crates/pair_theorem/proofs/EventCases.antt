@@ -12,7 +12,7 @@ use Rattle.frame_mirror.specs.Accepted.{entry_of}
 use Rattle.frame_mirror.specs.declared.ring.Waiting.{Waiting}
 use Rattle.frame_mirror.specs.declared.ring.TheConstants.{INBOX_ROOM}
 use Rattle.pair_theorem.specs.ClientFrames.{trims_by}
-use Rattle.pair_theorem.specs.Events.{accept_by, ask_event, client_entry, client_event, deliver_down, deliver_up, is_ack, look_at, numbers_of, outcome_of, outcome_with, passed_frame, primary_event, primary_hears, primary_survives, primary_turns, report_event, secondary_event, secondary_hears, secondary_survives, secondary_turns, survivor_turns, take_frame, taking_inbox, waiting_of}
+use Rattle.pair_theorem.specs.Events.{accept_by, ask_event, client_entry, client_event, deliver_down, deliver_up, is_ack_message, look_at, numbers_of, outcome_of, outcome_with, passed_frame, primary_event, primary_hears, primary_survives, turn_primary, report_event, secondary_event, secondary_hears, secondary_survives, turn_secondary, turn_survivor, take_frame, taking_inbox, waiting_of}
 use Rattle.pair_theorem.specs.GuestTurns.{turn_from}
 use Rattle.replay_log.specs.declared.lines.Line.{Line}
 use Rattle.replay_log.specs.declared.lines.Line.TheVariants.{Primary, Secondary, Client, ToSecondary, ToPrimary, StopPrimary, StopSecondary, Report, Ask}
@@ -41,15 +41,15 @@ asked_outcome past = record {
 
 abbrev pub primary_made : Kind → Past → ℕ → Bool → ℕ → ℕ → Outcome
 primary_made kind past d i b n =
-    primary_turns past (Primary d i b n) (turn_from kind past.primary past.primary_inbox i (numbers_of d b n))
+    turn_primary past (Primary d i b n) (turn_from kind past.primary past.primary_inbox i (numbers_of d b n))
 
 abbrev pub secondary_made : Kind → Past → ℕ → Bool → ℕ → ℕ → Outcome
 secondary_made kind past d i b n =
-    secondary_turns past (Secondary d i b n) (turn_from kind past.secondary past.secondary_inbox i (numbers_of d b n))
+    turn_secondary past (Secondary d i b n) (turn_from kind past.secondary past.secondary_inbox i (numbers_of d b n))
 
 abbrev pub survivor_made : Kind → Past → ℕ → Bool → ℕ → ℕ → Outcome
 survivor_made kind past d i b n =
-    survivor_turns past (Secondary d i b n) (turn_from kind past.secondary past.secondary_inbox i (numbers_of d b n))
+    turn_survivor past (Secondary d i b n) (turn_from kind past.secondary past.secondary_inbox i (numbers_of d b n))
 
 pub record Cases (kind : Kind) (P : Claim) : Type 0 where
   pub idle : (past : Past) (x : Line) → P past x (silently past x Nothing None)
@@ -67,12 +67,12 @@ pub record Cases (kind : Kind) (P : Claim) : Type 0 where
   pub loses : (past : Past) → P past Client (silently (passed_frame past) Client (Lost past.next) None)
   pub secondary_hears : (past : Past) (m : Message) (ms : List Message) → past.to_secondary ≡ m ∷ ms
       → P past ToSecondary (secondary_hears (record past { to_secondary = ms }) m)
-  pub ignores : (past : Past) (m : Message) (ms : List Message) → past.to_primary ≡ m ∷ ms → is_ack m ≡ false
+  pub ignores : (past : Past) (m : Message) (ms : List Message) → past.to_primary ≡ m ∷ ms → is_ack_message m ≡ false
       → past.awaits_ack ≡ true
       → P past ToPrimary
       (silently (record past { to_primary = ms }) ToPrimary (HeardBack (number_of m) past.sent_heard 0) (Some m))
   pub primary_hears : (past : Past) (m : Message) (ms : List Message) → past.to_primary ≡ m ∷ ms
-      → (past.awaits_ack && not (is_ack m)) ≡ false
+      → (past.awaits_ack && not (is_ack_message m)) ≡ false
       → P past ToPrimary (primary_hears (record past { to_primary = ms }) m)
   pub primary_stops : (past : Past)
       → P past StopPrimary (silently (record past { stop = primary_stop }) StopPrimary Zero None)
@@ -119,11 +119,11 @@ up_case : (kind : Kind) (P : Claim) → Cases kind P → (past : Past) (ms : Lis
 unfolding deliver_up
 up_case kind P h past [] e = h.idle past ToPrimary
 up_case kind P h past (m ∷ ms) e =
-    cond_both (past.awaits_ack && not (is_ack m))
+    cond_both (past.awaits_ack && not (is_ack_message m))
     (silently (record past { to_primary = ms }) ToPrimary (HeardBack (number_of m) past.sent_heard 0) (Some m))
     (primary_hears (record past { to_primary = ms }) m) (P past ToPrimary)
     (λ f. let parts =
-    and_parts past.awaits_ack (not (is_ack m)) f in h.ignores past m ms e (not-true (is_ack m) parts.1) parts.0)
+    and_parts past.awaits_ack (not (is_ack_message m)) f in h.ignores past m ms e (not-true (is_ack_message m) parts.1) parts.0)
     (λ f. h.primary_hears past m ms e f)
 
 primary_case : (kind : Kind) (P : Claim) → Cases kind P → (past : Past) (d : ℕ) (i : Bool) (b n : ℕ)

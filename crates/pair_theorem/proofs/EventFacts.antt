@@ -6,7 +6,7 @@ use Rattle.state_wire.specs.Guest.{Kind}
 use Rattle.pair_theorem.specs.Checkpoint.{capture}
 use Rattle.frame_mirror.specs.declared.ring.Waiting.{Waiting}
 use Rattle.pair_theorem.specs.ClientFrames.{trims_by}
-use Rattle.pair_theorem.specs.Events.{hear_end, hear_frame, hear_number, is_ack, is_full, numbers_of, passed_frame, Ended, accept_by, ack_ended, ended_by, known_ended, mark_cause, outcome_of, outcome_with, primary_ended, primary_hears, primary_survives, primary_turns, secondary_hears, secondary_survives, secondary_turns, sent_ended, settle_event, survivor_ended, survivor_turns}
+use Rattle.pair_theorem.specs.Events.{hear_end, hear_frame, hear_number, is_ack_message, is_full, numbers_of, passed_frame, Ended, accept_by, ack_ended, ended_by, known_ended, mark_cause, outcome_of, outcome_with, primary_ended, primary_hears, primary_survives, turn_primary, secondary_hears, secondary_survives, turn_secondary, sent_ended, settle_event, survivor_ended, turn_survivor}
 use Rattle.pair_theorem.specs.GuestTurns.{TurnMade, turn_from}
 use Rattle.replay_log.specs.declared.lines.Line.{Line}
 use Rattle.replay_log.specs.declared.lines.Line.TheVariants.{Primary, Secondary, Client, ToSecondary, ToPrimary, StopPrimary, StopSecondary, Report, Ask}
@@ -129,16 +129,16 @@ acked_facts past (Some why) n answer e h = record {
 }
 
 primary_facts : (kind : Kind) (past : Past) (d : ℕ) (i : Bool) (b n : ℕ) (made : TurnMade)
-    → EventFacts past (Primary d i b n) (primary_turns past (Primary d i b n) made)
-unfolding primary_turns outcome_with primary_ended settle_event ended_by
+    → EventFacts past (Primary d i b n) (turn_primary past (Primary d i b n) made)
+unfolding turn_primary outcome_with primary_ended settle_event ended_by
 primary_facts kind past d i b n made =
     ended_facts past (primary_ended past made).cause (Primary d i b n) None (Made made.index) (primary_ended past made)
     refl refl
     (record { counts = refl; captures = refl; primary_turned = refl; secondary_turned = refl })
 
 secondary_facts : (past : Past) (d : ℕ) (i : Bool) (b n : ℕ) (made : TurnMade)
-    → EventFacts past (Secondary d i b n) (secondary_turns past (Secondary d i b n) made)
-unfolding secondary_turns
+    → EventFacts past (Secondary d i b n) (turn_secondary past (Secondary d i b n) made)
+unfolding turn_secondary
 secondary_facts past d i b n made = record {
   line = refl;
   counts = refl;
@@ -151,8 +151,8 @@ secondary_facts past d i b n made = record {
 }
 
 survivor_facts : (past : Past) (d : ℕ) (i : Bool) (b n : ℕ) (made : TurnMade)
-    → EventFacts past (Secondary d i b n) (survivor_turns past (Secondary d i b n) made)
-unfolding survivor_turns outcome_with survivor_ended settle_event ended_by
+    → EventFacts past (Secondary d i b n) (turn_survivor past (Secondary d i b n) made)
+unfolding turn_survivor outcome_with survivor_ended settle_event ended_by
 survivor_facts past d i b n made =
     ended_facts past (survivor_ended past made).cause (Secondary d i b n) None (Made made.index)
     (survivor_ended past made)
@@ -241,7 +241,7 @@ down_facts past (Sent frame) ms = kept_facts past ms (Sent frame) refl
 down_facts past (Ack e) ms = kept_facts past ms (Ack e) refl
 
 -- a message that the primary ignores is no acknowledgement
-ignored_ack : (m : Message) → is_ack m ≡ false → ack_marks ToPrimary (Some m) ≡ []
+ignored_ack : (m : Message) → is_ack_message m ≡ false → ack_marks ToPrimary (Some m) ≡ []
 ignored_ack (Frame index seen trim frame) e = refl
 ignored_ack (Number t client number) e = refl
 ignored_ack (Begin n) e = refl
@@ -257,7 +257,7 @@ ignored_ack (Known t client number) e = refl
 ignored_ack (Sent frame) e = refl
 ignored_ack (Ack n) e = absurd (true≢false e)
 
-ignored_facts : (past : Past) (m : Message) (ms : List Message) → is_ack m ≡ false
+ignored_facts : (past : Past) (m : Message) (ms : List Message) → is_ack_message m ≡ false
     → EventFacts past ToPrimary
     (silently (record past { to_primary = ms }) ToPrimary (HeardBack (number_of m) past.sent_heard 0) (Some m))
 ignored_facts past m ms e =

@@ -1,5 +1,5 @@
 -- Tests of the parts, one each: a log that passes has the part. They compute, so that a worked log is shown by `refl`.
-use Rattle.std.proofs.Common.{◌≡◌, ◌⊎◌, inl, inr, ℕ, zero, suc, ◌+◌, ◌^◌, ◌<◌, ◌&&◌, ◌||◌, ◌==◌, nat_lt, nat_le, not, Bool, true, false, List, [], ◌∷◌, length, Option, None, Some, slice_index, refl, sym, ap, subst, ◌∙◌, eqb-true, ltb-true, leb-true, true≢false, arith}
+use Rattle.std.proofs.Common.{◌≡◌, ◌⊎◌, inl, inr, ℕ, zero, suc, ◌+◌, ◌^◌, ◌<◌, ◌&&◌, ◌||◌, ◌==◌, nat_lt, nat_le, not, Bool, true, false, List, [], ◌∷◌, ◌++◌, length, Option, None, Some, slice_index, refl, sym, ap, subst, ◌∙◌, eqb-true, ltb-true, leb-true, true≢false, arith}
 use Rattle.std.specs.Prelude.{All, IsTrue}
 use Rattle.std.specs.List.{list_all}
 use Rattle.std.specs.List.Sorted.{IsStrictlyIncreasing}
@@ -16,15 +16,15 @@ use Rattle.tcp_track.specs.Offsets.{distance}
 use Rattle.tcp_track.specs.Segments.{is_near, is_refusal, may_open, symbols_in}
 use Rattle.tcp_track.specs.Stands.{ResetStands, acked_in}
 use Rattle.settle_rules.specs.Release.{Released, tcp, reply, largest_payload}
-use Rattle.pair_theorem.specs.FrameParts.{AcksPart, IsAcked, IsShaped, NumbersPart, PlaceAcks, PlaceStands, PromptPart, ShapePart, StandsPart, SymbolsStand, Syn, event_acks, is_released, reply_due, same_number_shown, syns}
+use Rattle.pair_theorem.specs.FrameParts.{AcksPart, IsAcked, IsShaped, IsStandingRefusal, NumbersPart, PlaceAcks, PlaceStands, ShapePart, ShowsAgreed, StandsPart, SymbolsStand, Syn, event_acks, is_judged, is_released, reply_due, same_number_shown, syns}
 use Rattle.pair_theorem.specs.History.{entries, lines_of}
 use Rattle.state_wire.specs.Guest.{GuestState}
 use Rattle.replay_log.specs.declared.lines.Line.{Line}
 use Rattle.replay_log.specs.declared.records.Mark.{Mark}
 use Rattle.replay_log.specs.declared.records.Mark.TheVariants.{Captured, Committed, Acknowledged}
-use Rattle.pair_theorem.specs.LogParts.{acks_due, commits_due, causes_in, counts_released, counts_stated, marks_that, steps_due, FilesPart, LogPart, MarksPart, NamesPart, accepted_indices, capture_marks, files_of, is_accounted_for, is_acknowledged, is_captured, is_committed, nodes_at, run_indices, survivor_state, wire_bytes}
+use Rattle.pair_theorem.specs.LogParts.{acks_due, commits_due, causes_in, counts_released, counts_stated, marks_that, FilesPart, LogPart, MarksPart, NamesPart, accepted_indices, capture_marks, files_of, is_accounted_for, is_acknowledged, is_captured, is_committed, inbox_indices, nodes_at, run_indices, survivor_state}
 use Rattle.pair_theorem.specs.Past.{Agreed, Start, Step}
-use Rattle.pair_theorem.specs.Places.{Event, Place, events, places}
+use Rattle.pair_theorem.specs.Places.{Event, Place, delivered_due, delivered_in, events, places}
 use Rattle.splice_run.specs.Runs.{accepted_frame, is_accepted}
 use Rattle.pair_theorem.specs.TheRun.{run_segments, stream_entry, the_run}
 use Rattle.pair_theorem.proofs.AllLemmas.{All_from}
@@ -149,8 +149,8 @@ symbols_at sent p (Some client) (Some number) =
     reset_test sent p client && each_stands sent p.segment.tuple client number (fields_of p.segment p.payload)
 
 unfoldable pub place_stands : List TcpFields → Place → Bool
-unfolding symbols_in is_near is_refusal may_open
-place_stands sent p = is_refusal_shown sent p.segment || symbols_at sent p p.client p.number
+unfolding symbols_in is_near is_refusal may_open is_judged
+place_stands sent p = is_judged p && (is_refusal_shown sent p.segment || symbols_at sent p p.client p.number)
 
 reset_if : (sent : List TcpFields) (p : Place) (client : ℕ) → reset_test sent p client ≡ true
     → has_rst p.segment.flags ≡ true → ResetStands sent p.segment.tuple client
@@ -180,9 +180,14 @@ stood sent p (Some client) (Some number) e f h =
 
 stands_if : (sent : List TcpFields) (p : Place) → place_stands sent p ≡ true → PlaceStands sent p
 unfolding place_stands
-stands_if sent p e = by (or_cases (is_refusal_shown sent p.segment) (symbols_at sent p p.client p.number) e)
+stands_if sent p e =
+    record { judged = parts.0; stands = by (or_cases (is_refusal_shown sent p.segment) _ parts.1) }
   where
-    by : (is_refusal_shown sent p.segment ≡ true) ⊎ (symbols_at sent p p.client p.number ≡ true) → PlaceStands sent p
+    parts : (is_judged p ≡ true) × ((is_refusal_shown sent p.segment || symbols_at sent p p.client p.number) ≡ true)
+    parts = and_parts (is_judged p) _ e
+
+    by : (is_refusal_shown sent p.segment ≡ true) ⊎ (symbols_at sent p p.client p.number ≡ true)
+        → IsStandingRefusal sent p.segment ⊎ SymbolsStand sent p
     by (inl r) = inl (refusal_shown sent p.segment r)
     by (inr h) = inr (stood sent p p.client p.number refl refl h)
 
@@ -268,7 +273,7 @@ unfolding symbols_test last_acks_test
 prompt_test a steps = symbols_test a steps && last_acks_test a steps
 
 prompt_with : (a : Start) (steps : List Step) → symbols_test a steps ≡ true → last_acks_test a steps ≡ true
-    → PromptPart a steps
+    → ShowsAgreed a steps
 unfolding event_releases symbols_test last_acks_test
 prompt_with a steps e f = record {
   symbols =
@@ -279,7 +284,7 @@ prompt_with a steps e f = record {
   acks = All_from (λ (x : Event). IsTrue (event_acks a x)) (event_acks a) (events a steps) (λ x h. h) f;
 }
 
-pub prompt_from : (a : Start) (steps : List Step) → prompt_test a steps ≡ true → PromptPart a steps
+pub prompt_from : (a : Start) (steps : List Step) → prompt_test a steps ≡ true → ShowsAgreed a steps
 unfolding prompt_test
 prompt_from a steps e =
     let parts = and_parts (symbols_test a steps) (last_acks_test a steps) e in prompt_with a steps parts.0 parts.1
@@ -301,7 +306,7 @@ rising (x ∷ y ∷ xs) e (suc k) l =
 
 unfoldable pub missing_test : Start → List Step → Bool
 unfolding is_accounted_for
-missing_test a steps = list_all (is_accounted_for a steps) (accepted_indices steps)
+missing_test a steps = list_all (is_accounted_for a steps) (inbox_indices a.inbox ++ accepted_indices steps)
 
 unfoldable pub names_test : Start → List Step → Bool
 unfolding run_indices accepted_frame missing_test
@@ -319,8 +324,8 @@ names_with a steps e f g = record {
       All_from (λ i. IsTrue (is_accepted a.stream i)) (is_accepted a.stream) (run_indices (entries steps)) (λ i h. h)
       f;
   missing =
-      All_from (λ i. IsTrue (is_accounted_for a steps i)) (is_accounted_for a steps) (accepted_indices steps) (λ i h. h)
-      g;
+      All_from (λ i. IsTrue (is_accounted_for a steps i)) (is_accounted_for a steps)
+      (inbox_indices a.inbox ++ accepted_indices steps) (λ i h. h) g;
 }
 
 pub names_from : (a : Start) (steps : List Step) → names_test a steps ≡ true → NamesPart a steps
@@ -456,29 +461,20 @@ states_same s t e =
     let sectors = lists_same same_bytes are_same s.sectors t.sectors inner.1 in
     λ i. record { bytes = bytes i; pages = pages i; sectors = sectors i }
 
-unfoldable pub wire_due : Start → List Step → List ℕ
-unfolding wire_bytes events
-wire_due a steps = wire_bytes (steps_due (events a steps))
-
 unfoldable pub files_test : Start → List Step → Bool
-unfolding nodes_at the_run wire_bytes wire_due
-files_test a steps =
-    same_state (survivor_state (entries steps) (nodes_at a steps)) (the_run a (entries steps)).state
-    && same_bytes (wire_bytes steps) (wire_due a steps)
+unfolding nodes_at the_run
+files_test a steps = same_state (survivor_state (entries steps) (nodes_at a steps)) (the_run a (entries steps)).state
 
-pub files_from : (a : Start) (steps : List Step) → files_test a steps ≡ true
+pub files_from : (a : Start) (steps : List Step) → delivered_in steps ≡ delivered_due (events a steps)
+    → files_test a steps ≡ true
     → FilesPart a steps (nodes_at a steps) (files_of steps (nodes_at a steps))
-unfolding files_test wire_due files_of
-files_from a steps e =
-    let parts = and_parts (same_state (survivor_state (entries steps) (nodes_at a steps))
-    (the_run a (entries steps)).state) (same_bytes (wire_bytes steps) (wire_due a steps)) e in
-    record {
-      state =
-          states_same (survivor_state (entries steps) (nodes_at a steps)) (the_run a (entries steps)).state parts.0;
-      ram = refl;
-      disk = refl;
-      log = refl;
-      released = refl;
-      wire = refl;
-      messages = are_same (wire_bytes steps) (wire_due a steps) parts.1;
-    }
+unfolding files_test files_of
+files_from a steps delivered e = record {
+  state = states_same (survivor_state (entries steps) (nodes_at a steps)) (the_run a (entries steps)).state e;
+  ram = refl;
+  disk = refl;
+  log = refl;
+  released = refl;
+  wire = refl;
+  messages = delivered;
+}

@@ -1,16 +1,14 @@
--- While the primary runs: the whole theorem of the pair on a log that ends with a commit, and the counts of both
--- guests' turns.
-use Rattle.std.proofs.Common.{◌≡◌, ℕ, ◌+◌, ◌==◌, ◌&&◌, Bool, true, false, sym, ap, ◌∙◌, List, [], ◌∷◌, ◌++◌, fold, refl, eqb-true, arith}
+-- The whole theorem of the pair on a log that ends with a commit; and logs that break what it says of both guests.
+use Rattle.std.proofs.Common.{◌≡◌, ℕ, ◌+◌, ◌==◌, ◌&&◌, Bool, true, false, sym, ap, ◌∙◌, List, [], ◌∷◌, ◌++◌, fold, sum, refl, eqb-true, arith}
 use Rattle.std.proofs.lemmas.Bool.{and_parts}
-use Rattle.pair_theorem.specs.History.{entries, lines_of, pair_log}
+use Rattle.pair_theorem.specs.History.{entries, pair_log}
 use Rattle.replay_log.specs.declared.lines.Line.{Line}
 use Rattle.replay_log.specs.declared.lines.Line.TheVariants.{ToSecondary}
 use Rattle.pair_theorem.specs.LogParts.{count_on, GuestsPart, Nodes, SecondaryPart, ToldPart, files_of, nodes_at, spell, told_secondary, turns_of_primary, turns_of_secondary}
 use Rattle.pair_theorem.specs.Past.{Start, Step}
 use Rattle.splice_run.specs.Single.{secondary_turns}
-use Rattle.splice_run.specs.Log.{has_primary_stop}
 use Rattle.pair_theorem.specs.TheRun.{run_of}
-use Rattle.pair_theorem.specs.Theorem.{IsDetermined, PairTheorem, WhilePrimaryRuns}
+use Rattle.pair_theorem.specs.Theorem.{PairTheorem}
 use Rattle.pair_theorem.proofs.Breaking.{one_run_from, passes_all}
 use Rattle.pair_theorem.proofs.PartTests.{same_state, states_same}
 use Rattle.pair_theorem.proofs.WorkedFrames.{worked_start}
@@ -61,21 +59,13 @@ unfoldable pub commit_steps : List Step
 unfolding pair_log worked_start
 commit_steps = pair_log worked_start commit_lines
 
-commit_lines_are : lines_of commit_steps ≡ commit_lines
+commit_log : commit_steps ≡ pair_log worked_start commit_lines
 unfolding commit_steps
-commit_lines_are = refl
+commit_log = refl
 
 commit_passes : passes_all worked_start commit_steps ≡ true
 unfolding commit_steps passes_all
 commit_passes = refl
-
-commit_determined : IsDetermined worked_start commit_lines commit_steps
-unfolding commit_steps
-commit_determined = refl
-
-commit_no_stop : has_primary_stop (entries commit_steps) ≡ false
-unfolding commit_steps
-commit_no_stop = refl
 
 commit_guests : guests_test worked_start commit_steps (nodes_at worked_start commit_steps) ≡ true
 unfolding commit_steps nodes_at guests_test
@@ -92,16 +82,9 @@ commit_told = refl
 pub commit_theorem : PairTheorem worked_start commit_lines commit_steps (nodes_at worked_start commit_steps)
     (files_of commit_steps (nodes_at worked_start commit_steps))
 commit_theorem = record {
-  determined = commit_determined;
-  one_run = λ one. one_run_from worked_start commit_lines commit_steps commit_lines_are commit_passes;
+  determined = commit_log;
+  one_run = λ one. one_run_from worked_start commit_lines commit_steps commit_log commit_passes;
   guests = guests_from worked_start commit_steps (nodes_at worked_start commit_steps) commit_guests;
-}
-
-pub commit_holds : WhilePrimaryRuns worked_start commit_lines commit_steps (nodes_at worked_start commit_steps)
-    (files_of commit_steps (nodes_at worked_start commit_steps))
-commit_holds = record {
-  no_stop = commit_no_stop;
-  theorem = commit_theorem;
   secondary = secondary_from worked_start commit_steps (nodes_at worked_start commit_steps) commit_secondary;
   told = told_from worked_start commit_steps (nodes_at worked_start commit_steps) commit_told;
 }
@@ -124,3 +107,25 @@ a_recomputed_secondary h =
     let three = ap (λ (n : ℕ). n + 1) recomputed_count in
     let same = sym three ∙ (stated ∙ own_count) in
     absurd (omega (arith, same))
+
+-- A COMMIT THAT IS MARKED AND NEVER LOADED, while nothing stops: the secondary's guest is as it was before the commit
+unfoldable pub unloaded : Nodes
+unfolding nodes_at pair_log worked_start
+unloaded =
+    record (nodes_at worked_start commit_steps) {
+      secondary =
+          (nodes_at worked_start (pair_log worked_start captured_lines)).secondary;
+    }
+
+unloaded_bytes : sum unloaded.secondary.bytes ≡ 2231
+unfolding unloaded nodes_at
+unloaded_bytes = refl
+
+captured_bytes : sum (run_of worked_start (entries commit_steps) (secondary_turns (entries commit_steps))).state.bytes
+    ≡ 2199
+unfolding commit_steps worked_start run_of secondary_turns
+captured_bytes = refl
+
+pub a_commit_without_a_load : SecondaryPart worked_start commit_steps unloaded → ⊥
+a_commit_without_a_load h =
+    let same = sym unloaded_bytes ∙ (ap (λ s. sum s.bytes) h ∙ captured_bytes) in absurd (omega (arith, same))

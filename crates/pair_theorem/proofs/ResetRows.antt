@@ -3,7 +3,7 @@ use Rattle.std.specs.Prelude.{◌≡◌, true, List, [], ◌∷◌, ◌++◌, No
 use Rattle.settle_rules.specs.Release.{Released, tcp}
 use Rattle.state_wire.specs.Guest.{Kind}
 use Rattle.state_wire.specs.Script.{script_kind}
-use Rattle.pair_theorem.specs.History.{lines_of, pair_log}
+use Rattle.pair_theorem.specs.History.{pair_log}
 use Rattle.replay_log.specs.declared.lines.Line.{Line}
 use Rattle.replay_log.specs.declared.lines.Line.TheVariants.{ToPrimary}
 use Rattle.replay_log.specs.declared.records.Answer.TheVariants.{Made, HeardBack}
@@ -74,28 +74,28 @@ unfoldable pub reset_steps : List Step
 unfolding pair_log reset_start
 reset_steps = pair_log reset_start reset_lines
 
-reset_lines_are : lines_of reset_steps ≡ reset_lines
+reset_log : reset_steps ≡ pair_log reset_start reset_lines
 unfolding reset_steps
-reset_lines_are = refl
+reset_log = refl
 
 reset_passes : passes_all reset_start reset_steps ≡ true
 unfolding reset_start reset_steps passes_all
 reset_passes = refl
 
 pub reset_is_one_run : OneRun reset_start reset_lines reset_steps
-reset_is_one_run = one_run_from reset_start reset_lines reset_steps reset_lines_are reset_passes
+reset_is_one_run = one_run_from reset_start reset_lines reset_steps reset_log reset_passes
 
 unfoldable pub refusal_steps : List Step
 unfolding pair_log reset_start
 refusal_steps = pair_log reset_start refusal_lines
 
-refusal_lines_are : lines_of refusal_steps ≡ refusal_lines
+refusal_log : refusal_steps ≡ pair_log reset_start refusal_lines
 unfolding refusal_steps
-refusal_lines_are = refl
+refusal_log = refl
 
 refusal_passes : passes_all reset_start refusal_steps ≡ true
 unfolding reset_start refusal_steps passes_all
 refusal_passes = refl
 
 pub refusal_is_one_run : OneRun reset_start refusal_lines refusal_steps
-refusal_is_one_run = one_run_from reset_start refusal_lines refusal_steps refusal_lines_are refusal_passes
+refusal_is_one_run = one_run_from reset_start refusal_lines refusal_steps refusal_log refusal_passes

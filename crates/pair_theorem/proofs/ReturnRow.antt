@@ -7,7 +7,7 @@ use Rattle.state_wire.specs.Guest.{Kind}
 use Rattle.state_wire.specs.Script.{script_kind}
 use Rattle.frame_mirror.specs.declared.ring.Waiting.{Waiting}
 use Rattle.pair_theorem.specs.FrameParts.{Syn, syns}
-use Rattle.pair_theorem.specs.History.{entries, lines_of, pair_log}
+use Rattle.pair_theorem.specs.History.{entries, pair_log}
 use Rattle.replay_log.specs.declared.lines.Line.{Line}
 use Rattle.replay_log.specs.declared.lines.Line.TheVariants.{Primary, Client, ToSecondary, ToPrimary, StopPrimary, Report, Ask}
 use Rattle.pair_theorem.specs.LogParts.{NamesPart, accepted_indices, run_indices}
@@ -61,16 +61,16 @@ pub two_numbers : map shown (syns return_start return_steps) ≡ (1000, 5000) �
 unfolding return_start return_steps syns
 two_numbers = refl
 
-return_lines_are : lines_of return_steps ≡ return_lines
+return_log : return_steps ≡ pair_log return_start return_lines
 unfolding return_steps
-return_lines_are = refl
+return_log = refl
 
 return_passes : passes_all return_start return_steps ≡ true
 unfolding return_start return_steps passes_all
 return_passes = refl
 
 pub return_is_one_run : OneRun return_start return_lines return_steps
-return_is_one_run = one_run_from return_start return_lines return_steps return_lines_are return_passes
+return_is_one_run = one_run_from return_start return_lines return_steps return_log return_passes
 
 -- MISSING: on the link at the report of the primary's stop
 abbrev pub lost_lines : List Line

@@ -136,9 +136,9 @@ primary_ended past made =
       is_turn = true;
     })
 
-unfoldable pub primary_turns : Past → Line → TurnMade → Outcome
+unfoldable pub turn_primary : Past → Line → TurnMade → Outcome
 unfolding outcome_with primary_ended seen_of
-primary_turns past line made =
+turn_primary past line made =
     outcome_with line [] None (Made made.index) (primary_ended past made)
 
 -- the frames of a list that count
@@ -146,9 +146,9 @@ abbrev pub counted_frames : List (List ℕ) → List (List ℕ)
 counted_frames frames = filter (λ f. is_some (counted f)) frames
 
 -- a secondary settles nothing; it tells the frames that count
-unfoldable pub secondary_turns : Past → Line → TurnMade → Outcome
+unfoldable pub turn_secondary : Past → Line → TurnMade → Outcome
 unfolding seen_of
-secondary_turns past line made = silently (record past {
+turn_secondary past line made = silently (record past {
   secondary = made.run;
   secondary_inbox = made.inbox;
   secondary_turned = raise_count past.secondary_turned;
@@ -170,9 +170,9 @@ survivor_ended past made =
       is_turn = true;
     })
 
-unfoldable pub survivor_turns : Past → Line → TurnMade → Outcome
+unfoldable pub turn_survivor : Past → Line → TurnMade → Outcome
 unfolding outcome_with survivor_ended seen_of
-survivor_turns past line made =
+turn_survivor past line made =
     outcome_with line [] None (Made made.index) (survivor_ended past made)
 
 -- CLIENT FRAMES
@@ -186,8 +186,9 @@ look_at past (Some s) =
 abbrev pub passed_frame : Past → Past
 passed_frame past = record past { next = past.next + 1 }
 
--- the primary takes an accepted frame and tells the secondary of it; where it was stopped the
--- survivor takes it
+-- The primary takes an accepted frame and tells the secondary of it; its trim counts for both known
+-- lines, as the secondary's own takes it when it hears of the frame. Where the primary was stopped
+-- the survivor takes it.
 unfoldable pub accept_by : Bool → Past → Waiting → List Item → Past
 accept_by true past w trims = record past {
   next = past.next + 1;
@@ -198,6 +199,7 @@ accept_by false past w trims = record past {
   next = past.next + 1;
   primary = record past.primary { items = past.primary.items ++ trims };
   primary_inbox = past.primary_inbox ++ w ∷ [];
+  known_items = if past.is_reported then past.known_items else past.known_items ++ trims;
   to_secondary =
       if past.is_reported then past.to_secondary else past.to_secondary ++ frame_message w ∷ [];
 }
@@ -235,9 +237,9 @@ client_event past (Some frame) =
     else client_entry past (entry_of frame)
 
 -- THE SECONDARY HEARS
-abbrev pub number_after : Option KeptNumber → ℕ → ℕ
-number_after None number = number
-number_after (Some k) number = k.number
+abbrev pub number_said : Option KeptNumber → ℕ → ℕ
+number_said None number = number
+number_said (Some k) number = k.number
 
 abbrev pub is_full : List Waiting → Bool
 is_full inbox = nat_le INBOX_ROOM (length inbox)
@@ -258,7 +260,7 @@ hear_number past t client number = record past {
   secondary_numbers = keep_number t client number true past.secondary_numbers;
   to_primary =
       past.to_primary
-      ++ Known t client (number_after (kept_number t client past.secondary_numbers) number) ∷ [];
+      ++ Known t client (number_said (kept_number t client past.secondary_numbers) number) ∷ [];
 }
 
 -- the commit: guest, inbox, lines and numbers become the captured ones
@@ -346,15 +348,15 @@ primary_hears past (Ack e) =
     outcome_with ToPrimary (Acknowledged e ∷ []) (Some (Ack e)) (HeardBack 14 0) (ack_ended past)
 primary_hears past m = silently past ToPrimary Nothing None
 
-abbrev pub is_ack : Message → Bool
-is_ack m = number_of m == 14
+abbrev pub is_ack_message : Message → Bool
+is_ack_message m = number_of m == 14
 
 -- while it awaits an acknowledgement the primary ignores every other message
 unfoldable pub deliver_up : Past → List Message → Outcome
 unfolding primary_hears
 deliver_up past [] = silently past ToPrimary Nothing None
 deliver_up past (m ∷ ms) =
-    if past.awaits_ack && not (is_ack m)
+    if past.awaits_ack && not (is_ack_message m)
     then silently (record past { to_primary = ms }) ToPrimary
     (HeardBack (number_of m) past.sent_heard 0) (Some m)
     else primary_hears (record past { to_primary = ms }) m
@@ -407,18 +409,18 @@ abbrev pub numbers_of : ℕ → ℕ → ℕ → TurnNumbers
 numbers_of d b n = record { clock = d; blocks = b; steps = n }
 
 unfoldable pub primary_event : Kind → Past → Line → Bool → TurnNumbers → Outcome
-unfolding primary_turns turn_from
+unfolding turn_primary turn_from
 primary_event kind past line takes n =
     if is_primary_stop past.stop || past.awaits_ack then silently past line Nothing None
-    else primary_turns past line (turn_from kind past.primary past.primary_inbox takes n)
+    else turn_primary past line (turn_from kind past.primary past.primary_inbox takes n)
 
 unfoldable pub secondary_event : Kind → Past → Line → Bool → TurnNumbers → Outcome
-unfolding secondary_turns survivor_turns turn_from
+unfolding turn_secondary turn_survivor turn_from
 secondary_event kind past line takes n =
     let made = turn_from kind past.secondary past.secondary_inbox takes n in
     if is_secondary_stop past.stop then silently past line Nothing None
-    else (if secondary_releases past then survivor_turns past line made
-    else secondary_turns past line made)
+    else (if secondary_releases past then turn_survivor past line made
+    else turn_secondary past line made)
 
 -- THE EVENT of a line of a schedule
 unfoldable pub outcome_of : Kind → List (List ℕ) → Past → Line → Outcome

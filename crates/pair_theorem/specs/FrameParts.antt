@@ -1,9 +1,9 @@
 -- The parts that speak of released frames: Shape, Stands, Numbers, Acks and Prompt.
-use Rattle.std.specs.Prelude.{◌≡◌, ◌⊎◌, ℕ, ◌≤◌, Bool, true, false, not, ◌&&◌, ◌||◌, ◌==◌, nat_lt, IsTrue, if◌then◌else◌, List, [], ◌∷◌, ◌++◌, fold, All, Option, None, Some}
+use Rattle.std.specs.Prelude.{◌≡◌, ◌⊎◌, ℕ, ◌≤◌, Bool, true, false, not, ◌&&◌, ◌||◌, ◌==◌, nat_lt, IsTrue, if◌then◌else◌, List, [], ◌∷◌, ◌++◌, fold, length, All, Option, None, Some}
 use Rattle.std.specs.List.{list_all, list_any, enumerate_from, filter_map}
 use Rattle.std.specs.Option.{option_map}
 use Rattle.inet_frame.specs.Fields.{TcpFields}
-use Rattle.inet_frame.specs.Flags.{has_syn, has_rst}
+use Rattle.inet_frame.specs.Flags.{has_fin, has_syn, has_rst}
 use Rattle.inet_frame.specs.Counted.{tuple_of}
 use Rattle.inet_frame.specs.declared.tuple.Tuple.{Tuple}
 use Rattle.inet_build.specs.Segment.{fields_of, IsBuildable}
@@ -25,7 +25,7 @@ use Rattle.replay_log.specs.declared.lines.Line.TheVariants.{Client}
 use Rattle.replay_log.specs.declared.records.Answer.{Answer}
 use Rattle.replay_log.specs.declared.records.Answer.TheVariants.{Arp}
 use Rattle.pair_theorem.specs.Past.{Agreed, Past, Start, Step, releasing_items}
-use Rattle.pair_theorem.specs.Places.{Event, Place, events, places}
+use Rattle.pair_theorem.specs.Places.{Event, Place, events, places, released_due, released_in}
 use Rattle.pair_theorem.specs.TheRun.{stream_entry, run_segments}
 
 -- SHAPE
@@ -70,8 +70,23 @@ pub record SymbolsStand (sent : List TcpFields) (p : Place) : Type 0 where
       → Stands sent p.segment.tuple client o x
   pub reset : has_rst p.segment.flags ≡ true → ResetStands sent p.segment.tuple client
 
-abbrev pub PlaceStands : List TcpFields → Place → Type 0
-PlaceStands sent p = IsStandingRefusal sent p.segment ⊎ SymbolsStand sent p
+-- symbols below the bound of offsets, counted from the number of the last SYN released
+abbrev pub is_near_to : Option ℕ → TcpFields → Bool
+is_near_to None s = false
+is_near_to (Some number) s = is_near number s
+
+-- A segment with a payload or FIN has neither SYN nor RST, and its symbols are near: beside SYN or
+-- RST, or far off, a symbol would have no offset, and be judged by nothing.
+unfoldable pub is_judged : Place → Bool
+unfolding is_near
+is_judged p =
+    let s = fields_of p.segment p.payload in
+    length p.payload == 0 && not (has_fin s.flags)
+    || (not (has_syn s.flags) && (not (has_rst s.flags) && is_near_to p.number s))
+
+pub record PlaceStands (sent : List TcpFields) (p : Place) : Type 0 where
+  pub judged : IsTrue (is_judged p)
+  pub stands : IsStandingRefusal sent p.segment ⊎ SymbolsStand sent p
 
 -- Everything released stands in what the run sent.
 abbrev pub StandsPart : Start → List Step → Type 0
@@ -195,9 +210,9 @@ lines_in past t = both_lines (record {
   restarts = [];
 }) t
 
-abbrev pub is_ack : Option ℕ → ℕ → Bool
-is_ack None n = false
-is_ack (Some m) n = m == n
+abbrev pub is_said : Option ℕ → ℕ → Bool
+is_said None n = false
+is_said (Some m) n = m == n
 
 -- where the edge is above 0 and the lines have one client, the last acknowledgement is the agreed
 -- one
@@ -206,7 +221,7 @@ unfolding lines_in
 tuple_acks a past released t =
     let b = lines_in past t in
     not (nat_lt 0 (progress_of t past.progress).edge && has_one_client b)
-    || is_ack (last_ack a t released) (agreed_ack b)
+    || is_said (last_ack a t released) (agreed_ack b)
 
 -- at the end of an event after which no checkpoint is under way
 unfoldable pub event_acks : Start → Event → Bool
@@ -221,6 +236,12 @@ ReleasesAgreed e = All (λ (g : Agreed). IsTrue (is_released e.step.released g))
 
 -- Every agreed symbol is released in the event that shows it, and every agreed acknowledgement is
 -- said.
-pub record PromptPart (a : Start) (steps : List Step) : Type 0 where
+pub record ShowsAgreed (a : Start) (steps : List Step) : Type 0 where
   pub symbols : All ReleasesAgreed (events a steps)
   pub acks : All (λ (e : Event). IsTrue (event_acks a e)) (events a steps)
+
+-- In each event exactly the frames go out that the settling of it releases, in their order; and so
+-- every agreed symbol and acknowledgement does.
+pub record PromptPart (a : Start) (steps : List Step) : Type 0 where
+  pub settled : released_in steps ≡ released_due (events a steps)
+  pub shows : ShowsAgreed a steps

@@ -1,5 +1,4 @@
 pub mod Log
-pub mod SentLines
 pub mod ClientFrames
 pub mod Messages
 pub mod Past

@@ -24,7 +24,7 @@ use Rattle.colo_wire.specs.Spelling.{line_front, line_numbers, line_rest, messag
 use Rattle.colo_wire.specs.declared.messages.Message.{Message}
 use Rattle.colo_wire.specs.declared.messages.Message.TheVariants.{Frame, State, Page, Disk, End, Ack}
 use Rattle.pair_theorem.specs.Past.{Past, Start, Step, is_primary_stop}
-use Rattle.pair_theorem.specs.Places.{Event, events}
+use Rattle.pair_theorem.specs.Places.{Event, delivered_due, delivered_in, events}
 use Rattle.pair_theorem.specs.TheRun.{run_of, the_run}
 use Rattle.splice_run.specs.Runs.{is_accepted}
 use Rattle.splice_run.specs.Single.{secondary_turns, taken_turns}
@@ -100,11 +100,13 @@ is_accounted_for a steps i =
     || (list_any (loses i) (events a steps) || waits_for i (past_at a steps)))
 
 -- The frames that the run takes rise and are accepted frames of the stream; and of those that the
--- pair accepted none is missing but by a full inbox, a stop, or because it still waits.
+-- pair accepted, before the start (they wait in its inbox) or since, none is missing but by a full
+-- inbox, a stop, or because it still waits.
 pub record NamesPart (a : Start) (steps : List Step) : Type 0 where
   pub rising : IsStrictlyIncreasing (run_indices (entries steps))
   pub accepted : All (λ i. IsTrue (is_accepted a.stream i)) (run_indices (entries steps))
-  pub missing : All (λ i. IsTrue (is_accounted_for a steps i)) (accepted_indices steps)
+  pub missing : All (λ i. IsTrue (is_accounted_for a steps i))
+      (inbox_indices a.inbox ++ accepted_indices steps)
 
 -- MARKS
 abbrev pub is_captured : Mark → Bool
@@ -228,13 +230,9 @@ files_of steps nodes =
       disk = concat state.sectors;
     }
 
--- the steps that the definitions make of the lines of events
-abbrev pub steps_due : List Event → List Step
-steps_due es = map (λ (e : Event). e.outcome.step) es
-
 -- The survivor is in the run's last state, and memory and disk written are its own. The log, the
--- released frames and the delivered messages are written in order, and these are the messages that
--- the definitions give.
+-- released frames and the delivered messages are written in order; and in each event that message is
+-- delivered which the definitions give.
 pub record FilesPart (a : Start) (steps : List Step) (nodes : Nodes)
     (files : OutFiles) : Type 0 where
   pub state : survivor_state (entries steps) nodes ≡ (the_run a (entries steps)).state
@@ -243,7 +241,7 @@ pub record FilesPart (a : Start) (steps : List Step) (nodes : Nodes)
   pub log : files.log ≡ log_bytes steps
   pub released : files.released ≡ released_bytes steps
   pub wire : files.wire ≡ wire_bytes steps
-  pub messages : wire_bytes steps ≡ wire_bytes (steps_due (events a steps))
+  pub messages : delivered_in steps ≡ delivered_due (events a steps)
 
 -- GUESTS
 -- the turns that the records say each node made

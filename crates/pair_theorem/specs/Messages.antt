@@ -1,11 +1,11 @@
 -- The messages of a pair's log are those of `colo_wire`, with their numbers and spellings. Here
--- stand the number of a message's kind, and the two messages that hold a frame as an inbox does.
+-- stand the number of a message's kind, and the message that holds an accepted frame.
 use Rattle.std.specs.Prelude.{ℕ, List, Option}
 use Rattle.tcp_track.specs.declared.openings.Opening.{Opening}
 use Rattle.colo_wire.specs.Kinds.{number_of_kind}
 use Rattle.colo_wire.specs.Spelling.{kind_of}
 use Rattle.colo_wire.specs.declared.messages.Message.{Message}
-use Rattle.colo_wire.specs.declared.messages.Message.TheVariants.{Frame, Held}
+use Rattle.colo_wire.specs.declared.messages.Message.TheVariants.{Frame}
 use Rattle.frame_mirror.specs.declared.ring.Waiting.{Waiting}
 
 -- the number of a message's kind
@@ -15,10 +15,6 @@ number_of m = number_of_kind (kind_of m)
 -- an accepted frame, to the secondary
 abbrev pub frame_message : Waiting → Message
 frame_message w = Frame w.index w.seen w.trim w.frame
-
--- the same of one that waits in the primary's inbox, for a checkpoint
-abbrev pub held_message : Waiting → Message
-held_message w = Held w.index w.seen w.trim w.frame
 
 -- what such a message holds
 abbrev pub waiting_in : ℕ → Option Opening → ℕ → List ℕ → Waiting

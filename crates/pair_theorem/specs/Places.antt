@@ -1,6 +1,6 @@
 -- The events of some steps, each with what the definitions make of its line, and the places where
 -- segments are released.
-use Rattle.std.specs.Prelude.{ℕ, ◌&&◌, if◌then◌else◌, List, [], ◌∷◌, ◌++◌, fold, Option, Some}
+use Rattle.std.specs.Prelude.{ℕ, ◌&&◌, if◌then◌else◌, List, [], ◌∷◌, ◌++◌, fold, map, Option, Some}
 use Rattle.std.specs.List.{flat_map}
 use Rattle.std.specs.Option.{option_map}
 use Rattle.inet_frame.specs.Flags.{has_syn}
@@ -12,6 +12,7 @@ use Rattle.tcp_track.specs.declared.openings.Opening.{Opening}
 use Rattle.settle_rules.specs.Progress.{ProgressTable, progress_of}
 use Rattle.settle_rules.specs.Release.{Released, tcp, reply}
 use Rattle.pair_theorem.specs.Events.{outcome_of}
+use Rattle.colo_wire.specs.declared.messages.Message.{Message}
 use Rattle.state_wire.specs.Guest.{Kind}
 use Rattle.pair_theorem.specs.Past.{Outcome, Past, Start, Step, first_past, releasing_items}
 
@@ -35,6 +36,19 @@ unfoldable pub events : Start → List Step → List Event
 unfolding events_from
 events a steps = events_from a.kind a.stream (first_past a) [] steps
 
+-- what each step releases and delivers, and what it is to by the definitions
+abbrev pub released_in : List Step → List (List Released)
+released_in steps = map (λ (s : Step). s.released) steps
+
+abbrev pub released_due : List Event → List (List Released)
+released_due es = map (λ (e : Event). e.outcome.step.released) es
+
+abbrev pub delivered_in : List Step → List (Option Message)
+delivered_in steps = map (λ (s : Step). s.delivered) steps
+
+abbrev pub delivered_due : List Event → List (Option Message)
+delivered_due es = map (λ (e : Event). e.outcome.step.delivered) es
+
 -- the client of the releasing node's current opening of a tuple
 unfoldable pub current_client : Past → Tuple → Option ℕ
 unfolding line
@@ -45,13 +59,13 @@ current_client past t =
 abbrev pub number_at_start : ProgressTable → Tuple → Option ℕ
 number_at_start progress t = option_map (λ (o : Opening). o.own) (progress_of t progress).shown
 
-abbrev pub number_after : Tuple → Option ℕ → Released → Option ℕ
-number_after t number (reply _) = number
-number_after t number (tcp s _) =
+abbrev pub shown_after : Tuple → Option ℕ → Released → Option ℕ
+shown_after t number (reply _) = number
+shown_after t number (tcp s _) =
     if same_tuple s.tuple t && has_syn s.flags then Some s.seq else number
 
 abbrev pub shown_number : Start → Tuple → List Released → Option ℕ
-shown_number a t released = fold (number_after t) (number_at_start a.progress t) released
+shown_number a t released = fold (shown_after t) (number_at_start a.progress t) released
 
 -- A place where a segment is released. Its client is that of the releasing node's current opening
 -- of the tuple at the end of the event; its number is that of the last SYN released on the tuple up

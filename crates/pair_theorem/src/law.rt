@@ -10,7 +10,8 @@ ghost use Rattle.state_wire.specs.Guest.{GuestState, Kind};
 ghost use Rattle.pair_theorem.specs.History.{pair_log};
 ghost use Rattle.pair_theorem.specs.LogParts.{GuestsPart, LogPart, MarksPart, nodes_at};
 ghost use Rattle.pair_theorem.specs.Past.{Start, boot};
-ghost use Rattle.pair_theorem.specs.SentLines.{StandingIsKept};
+ghost use Rattle.pair_theorem.specs.Places.{delivered_due, delivered_in, events, released_due, released_in};
+ghost use Rattle.pair_theorem.specs.Theorem.{FrontsAreLogs};
 ghost use Rattle.pair_theorem.specs.TheRun.{the_run};
 
 /// Three parts of the theorem hold of every log: it goes through the schedule and states how many
@@ -30,8 +31,17 @@ pub fn boot_runs_the_single_run()
         ≡ run_turns kind stream (record { state = state; sent = [] }) (single_run log) }
 {}
 
-/// A symbol that stands in what was sent is the line's where the line reaches its offset and no
-/// other symbol stands there.
-pub fn standing_symbols_are_kept()
-    ensures { StandingIsKept }
+/// Event by event the released frames and the delivered message are those that the definitions make
+/// of the line.
+pub fn frames_and_messages_are_due()
+    ensures frames { (a : Start) (lines : List Line) →
+        released_in (pair_log a lines) ≡ released_due (events a (pair_log a lines)) }
+    ensures messages { (a : Start) (lines : List Line) →
+        delivered_in (pair_log a lines) ≡ delivered_due (events a (pair_log a lines)) }
+{}
+
+/// The log of a front of a schedule is the front of its log.
+#[tactic(auto, using(crate::proofs::EachLog::fronts_are))]
+pub fn fronts_are_logs()
+    ensures { FrontsAreLogs }
 {}

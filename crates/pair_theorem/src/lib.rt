@@ -10,4 +10,6 @@
 
 mod law;
 
-pub use law::{boot_runs_the_single_run, parts_hold_of_each_log, standing_symbols_are_kept};
+pub use law::{
+    boot_runs_the_single_run, frames_and_messages_are_due, fronts_are_logs, parts_hold_of_each_log,
+};
