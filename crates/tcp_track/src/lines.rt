@@ -92,14 +92,6 @@ impl Line {
         if self.fin { end + 1 } else { end }
     }
 
-    /// The greatest acknowledgement, as an offset in the client's stream.
-    pub fn acked(&self) -> Offset
-        ensures value { result ≡ self.now.acked }
-        ensures within { result < OFFSET_BOUND }
-    {
-        self.acked
-    }
-
     /// Says whether the current opening is one of this client.
     pub fn is_of_client(&self, client: u32) -> bool
         ensures { result ≡ is_of_client self.now.opening client }
