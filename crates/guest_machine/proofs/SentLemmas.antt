@@ -16,7 +16,8 @@ use Rattle.virt_queue.specs.Parts.{DescriptorChain}
 use Rattle.virt_queue.specs.declared.fields.RingFault.{RingFault}
 use Rattle.virtio_mmio.specs.declared.kind.Served.{Served}
 use Rattle.virtio_mmio.specs.declared.kind.Served.TheVariants.{Done, Idle, Broken}
-use Rattle.virtio_net.specs.Port.{Port, next_of, port_of, queue_of, send_queue, works_on}
+use Rattle.virtio_mmio.specs.Registers.{serves}
+use Rattle.virtio_net.specs.Port.{Port, next_of, port_of, queue_of, send_queue}
 use Rattle.virtio_net.specs.Send.{Sending, follow_by, is_frame, output, payload, send, send_by, send_chain, send_chains}
 use Rattle.guest_machine.specs.Guest.{state_in}
 use Rattle.guest_machine.specs.Laws.{MachinesSendFrames}
@@ -72,7 +73,7 @@ where_it_works false port = All-nil IsFrame
 
 port_sends : (port : Port) → All IsFrame (send port).frames
 unfolding send
-port_sends port = where_it_works (works_on port.card.device send_queue) port
+port_sends port = where_it_works (serves port.card.device send_queue) port
 
 notify_sends : (notified : Bool) (p : PlatformState) → All IsFrame (serve_notify notified p).frames
 unfolding send_frames

@@ -1,6 +1,6 @@
 -- Block requests one after the other, and the parts of a turn.
 use Rattle.std.proofs.Common.{◌≡◌, ℕ, zero, suc, ◌+◌, ◌-◌, ◌<◌, Result, Ok, Err, refl, sym, ap, ◌∙◌, add-one, add-zero, arith}
-use Rattle.std.specs.Prelude.{OnOk}
+use Rattle.std.specs.Prelude.{OnErr, OnOk}
 use Rattle.guest_machine.specs.Kinds.{KeepsSizes}
 use Rattle.guest_machine.specs.Turn.{State, serve_request, serve_requests}
 
@@ -41,6 +41,11 @@ on_ok P Q (Err e) f h = h
 pub on_both : {A E : Type 0} (P Q R : Type 0) (r : Result A E) → (P → Q → R) → OnOk r P → OnOk r Q → OnOk r R
 on_both P Q R (Ok v) f h g = f h g
 on_both P Q R (Err e) f h g = h
+
+-- and where it answered Err
+pub on_err : {A E : Type 0} (P Q : Type 0) (r : Result A E) → (P → Q) → OnErr r P → OnErr r Q
+on_err P Q (Ok v) f h = h
+on_err P Q (Err e) f h = f h
 
 -- sizes that are kept
 pub sizes_same : (s : State) → KeepsSizes s s

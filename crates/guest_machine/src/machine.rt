@@ -1,6 +1,6 @@
 //! The machine: how it starts, its turns, and its state in parts.
 
-ghost use Rattle.std.specs.Prelude.{◌≡◌, ◌≤◌, ◌+◌, ◌%◌, ◌^◌, ◌++◌, true, false, Some, None, IsTrue, IsErr, IsSome, IfOk, IfErr, OnOk, OnErr, length};
+ghost use Rattle.std.specs.Prelude.{◌≡◌, ◌≢◌, [], ◌≤◌, ◌+◌, ◌%◌, ◌^◌, ◌++◌, true, false, Some, None, IsTrue, IsErr, IsSome, IfOk, IfErr, OnOk, OnErr, length};
 ghost use Rattle.std.specs.Io.{StartsWith};
 ghost use Rattle.std.specs.Option.{ForSome, option_copied};
 ghost use Rattle.elf_load.specs.Boot.{boot_memory, elf_case};
@@ -34,7 +34,8 @@ const PAGE_SIZE: u64 = 4096;
 /// A machine over a disk: a platform, how many turns it has made, and whether it ran out of memory.
 ///
 /// Contracts see it as `MachineParts`. A machine that answered `NoMemory` to a call that may change
-/// it answers it from then on, wherever the answer has it.
+/// it answers it from then on, wherever the answer has it. Another answers it to a turn only where
+/// the turn sends a frame, and never to the loading of a state.
 #[derive(Drop)]
 pub struct Machine<D: Disk + Drop> {
     platform: Platform,
@@ -196,6 +197,7 @@ impl<D: Disk + Drop> Machine<D> {
         ensures front { OnErr result (Begins out.old out.new) }
         ensures uncounted { OnErr result (self.new.turned ≡ self.old.turned) }
         ensures spent { OnErr result (self.new.spent ≡ true) }
+        ensures cause { OnErr result ((finish_turn self.old.state steps).frames ≢ []) }
         ensures size { KeepsSizes self.old.state self.new.state }
     {
         match self.platform.run(steps, out) {
@@ -245,6 +247,8 @@ impl<D: Disk + Drop> Guest for Machine<D> {
         ensures frames { OnOk result (out.new ≡ out.old ++ (make_turn self.old.state
             (turn_of ticks (option_copied frame.entry) requests steps)).frames) }
         ensures refuses { self.old.spent ≡ true → IsErr result }
+        ensures cause { OnErr result (self.old.spent ≡ false → (make_turn self.old.state
+            (turn_of ticks (option_copied frame.entry) requests steps)).frames ≢ []) }
         ensures spent { OnErr result (self.new.spent ≡ true) }
     {
         if self.spent {
@@ -307,6 +311,7 @@ impl<D: Disk + Drop> Guest for Machine<D> {
         ensures failed { OnErr result (KeepsKind
             (machine_meaning self.old) (machine_meaning self.new)) }
         ensures refuses { self.old.spent ≡ true → IsErr result }
+        ensures only { IsErr result → self.old.spent ≡ true }
         ensures spent { self.new.spent ≡ self.old.spent }
     {
         if self.spent {

@@ -1,5 +1,5 @@
 -- What the parts of a platform hold after an instruction, and what the platform is then.
-use Rattle.std.proofs.Common.{◌≡◌, ℕ, Bool, false, List, refl, sym, ap, subst, ◌∙◌}
+use Rattle.std.proofs.Common.{◌≡◌, ◌≢◌, ℕ, Bool, false, List, [], refl, sym, ap, subst, ◌∙◌}
 use Rattle.rv_core.specs.Effect.{effect}
 use Rattle.rv_core.specs.Reach.{ExecutionResult, execution_result}
 use Rattle.rv_core.specs.Registers.{Regs}
@@ -57,6 +57,14 @@ left_execution p s o h c b w i e mid new before after left is =
       platform_is = is ∙ ap (enter_by o) left.platform_is;
       frames_are = left.frames_are;
     })
+
+-- what the notify of an instruction sends, its step sends
+pub sends_execution : (p : Parts) (s : IsSettled p) (o : Outcome) (h : Regs) (c : CsrState) (b : Board) (w : ℕ)
+    (i : Instr) → execution_result o h c b ≡ effect board_acts p.hart p.csrs p.board w i
+    → (serve_notify b.notified (platform_with h c b)).frames ≢ [] → (execute_step (platform_of p) w i).frames ≢ []
+sends_execution p s o h c b w i e some none =
+    let step = execution_is p s (execution_result o h c b) w i e in
+    some (sym (ap (λ (x : Step). x.frames) step) ∙ none)
 
 -- where no register was touched, the parts are settled
 pub still_settled : (p : Parts) (h : Regs) (c : CsrState) (b : Board) → IsSettled p → KeepsLines p.csrs c

@@ -1,6 +1,8 @@
 -- Steps, one after the other, with the frames that they send.
-use Rattle.std.proofs.Common.{◌≡◌, ℕ, ◌+◌, List, ◌++◌, refl, sym, ap, ◌∙◌, add-one, append_assoc, append-nil}
+use Rattle.std.proofs.Common.{◌≡◌, ◌≢◌, ℕ, zero, suc, ◌+◌, ◌<◌, ◌≤◌, List, [], ◌++◌, refl, sym, ap, ◌∙◌, arith, add-one, append_assoc, append-nil, ⊎_elim}
+use Rattle.std.proofs.lemmas.Bool.{cases_lt}
 use Rattle.virtio_net.specs.Send.{Begins}
+use Rattle.virtio_net.proofs.SendLemmas.{after_empty, before_empty}
 use Rattle.rv_platform.specs.Step.{PlatformState, Step, quiet, run_steps, step, then_step}
 use Rattle.rv_platform.specs.Settled.{KeepsKinds, Leaves}
 
@@ -31,6 +33,22 @@ pub one_more : (k : ℕ) (p q r : PlatformState) (a b c : List (List ℕ)) → L
     Leaves (step q) r b c → Leaves (run_steps (k + 1) p) r a c
 one_more k p q r a b c h g =
     let e = run_more k p in rw e (left_then (run_steps k p) q r a b c h g)
+
+-- what one of the steps sends, all of them send
+pub one_sends : (n k : ℕ) (p q : PlatformState) → k < n → q ≡ (run_steps k p).platform → (step q).frames ≢ [] →
+    (run_steps n p).frames ≢ []
+unfolding run_steps
+one_sends zero k p q lt is some none = absurd (omega (arith, lt))
+one_sends (suc n) k p q lt is some none =
+    let before = (run_steps n p).frames in
+    let last = (step (run_steps n p).platform).frames in
+    ⊎_elim
+    (λ (earlier : k < n). one_sends n k p q earlier is some (before_empty before last none))
+    (λ (later : n ≤ k).
+    let same : k ≡ n = omega arith in
+    let there : q ≡ (run_steps n p).platform = is ∙ ap (λ (j : ℕ). (run_steps j p).platform) same in
+    some (ap (λ (x : PlatformState). (step x).frames) there ∙ after_empty before last none))
+    (cases_lt k n)
 
 -- frames that begin with others begin with what these began with
 pub begins_then : (s : Step) (p : PlatformState) (a b c : List (List ℕ)) → Leaves s p a b → Begins b c → Begins a c

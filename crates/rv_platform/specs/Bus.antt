@@ -1,7 +1,7 @@
 -- The bus of the hart: memory from 0x80000000 on, the core-local interruptor, and the registers of
 -- two virtio devices over MMIO (VIRTIO 1.1, 4.2.2), a network card at 0x10001000 and a block device
 -- at 0x10002000. An access to anything else is refused. The addresses are this machine's own.
-use Rattle.std.specs.Prelude.{ℕ, ◌+◌, ◌-◌, ◌%◌, ◌==◌, nat_le, nat_lt, Bool, true, false, not, ◌&&◌, ◌||◌, if◌then◌else◌, Option, Some, None, List, length, replicate}
+use Rattle.std.specs.Prelude.{ℕ, ◌+◌, ◌-◌, ◌%◌, ◌==◌, nat_le, nat_lt, Bool, true, false, not, ◌&&◌, ◌||◌, if◌then◌else◌, Option, Some, None, length}
 use Rattle.shared_definitions.specs.Memory.{is_inside}
 use Rattle.page_track.specs.Memory.{number_at, with_number}
 use Rattle.rv_core.specs.Acts.{Acts}
@@ -9,7 +9,7 @@ use Rattle.virtio_mmio.specs.Device.{Device}
 use Rattle.virtio_mmio.specs.Registers.{read_config, read_register, write_register, write_event}
 use Rattle.virtio_mmio.specs.declared.kind.Event.{Event}
 use Rattle.virtio_mmio.specs.declared.kind.Event.TheVariants.{Nothing, Notify, Reset, Ack}
-use Rattle.virtio_net.specs.Port.{send_queue}
+use Rattle.virtio_net.specs.Port.{send_queue, write_card}
 use Rattle.rv_platform.specs.Clint.{load_clint, stores_clint, store_clint}
 use Rattle.rv_platform.specs.declared.board.Board.{Board}
 
@@ -58,13 +58,6 @@ unfoldable pub stores_register : ℕ → ℕ → Bool
 stores_register addr width =
     if is_at_device addr then is_word addr width else stores_clint addr width
 
--- a reset of the network card forgets its neighbour
-abbrev pub neighbour_after : Event → List ℕ → List ℕ
-neighbour_after Nothing neighbour = neighbour
-neighbour_after (Notify queue) neighbour = neighbour
-neighbour_after Reset neighbour = replicate 6 0
-neighbour_after Ack neighbour = neighbour
-
 -- a notify of the network card's send queue is kept until the instruction is over
 abbrev pub notifies_send : Event → Bool
 notifies_send Nothing = false
@@ -74,10 +67,7 @@ notifies_send Ack = false
 
 abbrev pub write_network : Board → ℕ → ℕ → Board
 write_network b offset value = record b {
-  net = record {
-    device = write_register b.net.device offset value;
-    neighbour = neighbour_after (write_event offset value) b.net.neighbour;
-  };
+  net = write_card b.net offset value;
   touched = true;
   notified = notifies_send (write_event offset value) || b.notified;
 }

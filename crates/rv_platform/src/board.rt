@@ -92,10 +92,8 @@ impl Board {
         ensures { self.new ≡ write_network self.old offset value }
     {
         self.touched = true;
-        match self.net.regs_mut().write(offset, value) {
-            Event::Notify(queue) => self.notified = queue == SEND_QUEUE || self.notified,
-            Event::Reset => self.net.set_neighbour([0; 6]),
-            Event::Nothing | Event::Ack => {}
+        if let Event::Notify(queue) = self.net.write(offset, value) {
+            self.notified = queue == SEND_QUEUE || self.notified;
         }
     }
 

@@ -3,8 +3,9 @@
 
 ghost use Rattle.std.specs.Prelude.{◌≡◌};
 ghost use Rattle.std.specs.Bool.{OnFalse};
-ghost use Rattle.shared_definitions.specs.Halves.{low_half, high_half, with_low_half, with_high_half};
 ghost use Rattle.rv_platform.specs.Clint.{load_clint, stores_clint, store_clint};
+
+use shared_definitions::{high_half, low_half, with_high_half, with_low_half};
 
 /// The address of `msip`.
 const MSIP: u32 = 0x0200_0000;
@@ -68,32 +69,4 @@ impl Clint {
         }
         true
     }
-}
-
-/// The word of the lower 32 bits.
-fn low_half(number: u64) -> u32
-    ensures { result ≡ low_half number }
-{
-    (number % 0x1_0000_0000) as u32
-}
-
-/// The word of the upper 32 bits.
-fn high_half(number: u64) -> u32
-    ensures { result ≡ high_half number }
-{
-    (number >> 32) as u32
-}
-
-/// The number with another lower word.
-fn with_low_half(number: u64, half: u32) -> u64
-    ensures { result ≡ with_low_half number half }
-{
-    (number >> 32 << 32) + u64::from(half)
-}
-
-/// The number with another upper word.
-fn with_high_half(number: u64, half: u32) -> u64
-    ensures { result ≡ with_high_half number half }
-{
-    (u64::from(half) << 32) + number % 0x1_0000_0000
 }

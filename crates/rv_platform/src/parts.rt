@@ -1,6 +1,6 @@
 //! The parts of a platform, and its steps.
 
-ghost use Rattle.std.specs.Prelude.{◌≡◌, ℕ, false, OnOk, OnErr};
+ghost use Rattle.std.specs.Prelude.{◌≡◌, ◌≢◌, ℕ, false, [], OnOk, OnErr};
 ghost use Rattle.rv_isa.specs.Table.{IsEncodable, decode};
 ghost use Rattle.rv_core.specs.Effect.{IsWordOf};
 ghost use Rattle.rv_traps.specs.Trap.{pending_interrupt};
@@ -35,6 +35,7 @@ impl Parts {
         ensures ok { OnOk result (Leaves (run_steps steps (platform_of self.old))
             (platform_of self.new) out.old out.new) }
         ensures front { OnErr result (Begins out.old out.new) }
+        ensures cause { OnErr result ((run_steps steps (platform_of self.old)).frames ≢ []) }
         ensures settled { IsSettled self.new }
         ensures kinds { KeepsKinds (platform_of self.old) (platform_of self.new) }
     {
@@ -52,6 +53,7 @@ impl Parts {
         ensures ok { OnOk result (Leaves (step (platform_of self.old))
             (platform_of self.new) out.old out.new) }
         ensures front { OnErr result (Begins out.old out.new) }
+        ensures cause { OnErr result ((step (platform_of self.old)).frames ≢ []) }
         ensures settled { IsSettled self.new }
         ensures kinds { KeepsKinds (platform_of self.old) (platform_of self.new) }
     {
@@ -68,6 +70,8 @@ impl Parts {
             (step_from (platform_of self.old) (pending_interrupt (csrs_of (platform_of self.old))))
             (platform_of self.new) out.old out.new) }
         ensures front { OnErr result (Begins out.old out.new) }
+        ensures cause { OnErr result ((step_from (platform_of self.old)
+            (pending_interrupt (csrs_of (platform_of self.old)))).frames ≢ []) }
         ensures settled { IsSettled self.new }
         ensures kinds { KeepsKinds (platform_of self.old) (platform_of self.new) }
     {
@@ -92,6 +96,8 @@ impl Parts {
         ensures ok { OnOk result (Leaves (decode_step (platform_of self.old) word (decode word))
             (platform_of self.new) out.old out.new) }
         ensures front { OnErr result (Begins out.old out.new) }
+        ensures cause { OnErr result
+            ((decode_step (platform_of self.old) word (decode word)).frames ≢ []) }
         ensures settled { IsSettled self.new }
         ensures kinds { KeepsKinds (platform_of self.old) (platform_of self.new) }
     {
@@ -113,6 +119,8 @@ impl Parts {
             → OnOk result (Leaves (execute_step (platform_of self.old) word instr.now)
             (platform_of self.new) out.old out.new) }
         ensures front { OnErr result (Begins out.old out.new) }
+        ensures cause { (word : ℕ) → IsWordOf word instr.now
+            → OnErr result ((execute_step (platform_of self.old) word instr.now).frames ≢ []) }
         ensures settled { IsSettled self.new }
         ensures kinds { KeepsKinds (platform_of self.old) (platform_of self.new) }
     {
@@ -131,6 +139,8 @@ impl Parts {
             (platform_with self.old.hart self.old.csrs self.old.board))
             (platform_of self.new) out.old out.new) }
         ensures front { OnErr result (Begins out.old out.new) }
+        ensures cause { OnErr result ((serve_notify self.old.board.notified
+            (platform_with self.old.hart self.old.csrs self.old.board)).frames ≢ []) }
         ensures settled { IsSettled self.new }
         ensures kinds { KeepsKinds (platform_of self.old) (platform_of self.new) }
     {
@@ -150,6 +160,8 @@ impl Parts {
             (platform_with self.old.hart self.old.csrs self.old.board))
             (platform_of self.new) out.old out.new) }
         ensures front { OnErr result (Begins out.old out.new) }
+        ensures cause { OnErr result ((serve_notify self.old.board.notified
+            (platform_with self.old.hart self.old.csrs self.old.board)).frames ≢ []) }
         ensures settled { IsSettled self.new }
         ensures kinds { KeepsKinds (platform_of self.old) (platform_of self.new) }
     {
@@ -168,6 +180,8 @@ impl Parts {
         ensures ok { OnOk result (Leaves (serve_notify self.old.board.notified
             (platform_of self.old)) (platform_of self.new) out.old out.new) }
         ensures front { OnErr result (Begins out.old out.new) }
+        ensures cause { OnErr result
+            ((serve_notify self.old.board.notified (platform_of self.old)).frames ≢ []) }
         ensures kinds { KeepsKinds (platform_of self.old) (platform_of self.new) }
         ensures csrs { self.new.csrs ≡ self.old.csrs }
         ensures clint { self.new.board.clint ≡ self.old.board.clint }

@@ -1,6 +1,6 @@
 //! The platform, call by call.
 
-ghost use Rattle.std.specs.Prelude.{◌≡◌, ◌%◌, ◌≤◌, length, IsTrue, OnOk, OnErr};
+ghost use Rattle.std.specs.Prelude.{◌≡◌, ◌≢◌, [], ◌%◌, ◌≤◌, length, IsTrue, OnOk, OnErr};
 ghost use Rattle.virtio_net.specs.Port.{port_of};
 ghost use Rattle.virtio_net.specs.Receive.{can_receive};
 ghost use Rattle.virtio_net.specs.Send.{Begins};
@@ -130,11 +130,13 @@ impl Platform {
 
     /// Makes so many steps. The frames that are sent, other than ARP, are added to `out`.
     ///
-    /// After `NoMemory` nothing is stated but that `out` begins with what it held, that memory has
-    /// its size, and that the devices are of their kinds.
+    /// `NoMemory` comes only where these steps send a frame. Then nothing is stated of the rest but
+    /// that `out` begins with what it held, that memory has its size, and that the devices are of
+    /// their kinds.
     pub fn run(&mut self, steps: u32, out: &mut Frames) -> Result<(), NoMemory>
         ensures ok { OnOk result (Leaves (run_steps steps self.old) self.new out.old out.new) }
         ensures front { OnErr result (Begins out.old out.new) }
+        ensures cause { OnErr result ((run_steps steps self.old).frames ≢ []) }
         ensures kinds { KeepsKinds self.old self.new }
     {
         self.parts.run(steps, out)

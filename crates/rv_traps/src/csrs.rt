@@ -4,7 +4,6 @@ ghost use Rattle.std.specs.Prelude.{◌≡◌, ◌<◌, ◌%◌, ◌^◌, IfSome
 ghost use Rattle.std.specs.Bool.{OnFalse};
 ghost use Rattle.rv_traps.specs.Fields.{IsLegal, fields_of, state_of};
 ghost use Rattle.rv_traps.specs.CsrTable.{read_csr, write_csr, is_writable, mip_of};
-ghost use Rattle.shared_definitions.specs.Halves.{low_half, high_half};
 ghost use Rattle.rv_traps.specs.Trap.{pending_interrupt, enter_trap, trap_handler, return_from_trap, tick, count_step, boot_csrs};
 
 use crate::cause::{
@@ -13,6 +12,7 @@ use crate::cause::{
 use crate::fields::CsrFields;
 use crate::numbers::*;
 use crate::words;
+use shared_definitions::{high_half, low_half};
 use std::marker::Model;
 
 /// The control and status registers of the hart with its timer and the lines that raise interrupts
@@ -79,8 +79,8 @@ impl Csrs {
             MCAUSE => self.fields.mcause,
             MTVAL => self.fields.mtval,
             MIP => self.mip(),
-            MCYCLE | MINSTRET => self.steps_low(),
-            MCYCLEH | MINSTRETH => self.steps_high(),
+            MCYCLE | MINSTRET => low_half(self.fields.steps),
+            MCYCLEH | MINSTRETH => high_half(self.fields.steps),
             MVENDORID | MARCHID | MIMPID | MHARTID => 0,
             _ => return None,
         };
@@ -275,19 +275,5 @@ impl Csrs {
         };
         let external = if self.external { 0x800 } else { 0 };
         software + timer + external
-    }
-
-    /// The low half of the count of steps.
-    fn steps_low(&self) -> u32
-        ensures { result ≡ low_half self.now.steps }
-    {
-        (self.fields.steps % 0x1_0000_0000) as u32
-    }
-
-    /// The high half of the count of steps.
-    fn steps_high(&self) -> u32
-        ensures { result ≡ high_half self.now.steps }
-    {
-        (self.fields.steps >> 32) as u32
     }
 }

@@ -69,7 +69,7 @@ with_append m address n xs ys inside lt =
     }
 
 -- the size of memory after a write of a part's bytes at most
-size_kept : (m : Memory) (p : Part) (xs : List ℕ) → is_inside (length m.bytes) p.addr p.len ≡ true
+pub size_kept : (m : Memory) (p : Part) (xs : List ℕ) → is_inside (length m.bytes) p.addr p.len ≡ true
     → length (with_part m p.addr (take p.len xs)).bytes ≡ length m.bytes
 size_kept m p [] inside =
     ap (λ (x : List ℕ). length (with_part m p.addr x).bytes) (take-nil p.len)
@@ -149,7 +149,7 @@ write_append m (p ∷ parts) xs ys inside few =
     (cases_lt (length xs) p.len)
 
 -- the parts of one kind are in memory with all
-inside_of_kind : (size : ℕ) (w : Bool) (parts : List Part) → parts_inside size parts ≡ true
+pub inside_of_kind : (size : ℕ) (w : Bool) (parts : List Part) → parts_inside size parts ≡ true
     → parts_inside size (of_kind w parts) ≡ true
 inside_of_kind size w [] all = refl
 inside_of_kind size w (p ∷ parts) all =

@@ -1,10 +1,11 @@
 -- What a call does where its ring gave a chain.
-use Rattle.std.proofs.Common.{◌≡◌, true, ◌&&◌, Option, Some, None, Result, Ok, Err, refl, ap, sym, ◌∙◌}
+use Rattle.std.proofs.Common.{◌≡◌, true, Option, Some, None, Result, Ok, Err, refl, ap, sym, ◌∙◌}
 use Rattle.page_track.specs.Memory.{Memory}
 use Rattle.virt_queue.specs.Chain.{next_chain, is_given, chain_of, after_chain}
 use Rattle.virt_queue.specs.Parts.{DescriptorChain}
 use Rattle.virt_queue.specs.declared.fields.RingFault.{RingFault}
-use Rattle.virtio_mmio.specs.Device.{Device, is_live}
+use Rattle.virtio_mmio.specs.Device.{Device}
+use Rattle.virtio_mmio.specs.Registers.{serves}
 use Rattle.virtio_blk.specs.Disk.{DiskState}
 use Rattle.virtio_blk.specs.Serve.{serve, serve_next, serve_chain}
 
@@ -15,7 +16,7 @@ by_ring d m k (Ok None) e = absurd (cc)
 by_ring d m k (Ok (Some chain)) e = refl
 by_ring d m k (Err fault) e = absurd (cc)
 
-pub serve_given : (d : Device) (m : Memory) (k : DiskState) → (is_live d && d.first.ready) ≡ true
+pub serve_given : (d : Device) (m : Memory) (k : DiskState) → serves d 0 ≡ true
     → Ok true ≡ is_given (next_chain m.bytes d.first)
     → serve d m k
     ≡ serve_chain (record d { first = after_chain d.first (next_chain m.bytes d.first) }) m k (chain_of
@@ -25,7 +26,7 @@ serve_given d m k live given = rw live (by_ring d m k (next_chain m.bytes d.firs
 
 -- the same where the device and the chain are those that the ring left
 pub serves_so : (d after : Device) (m : Memory) (k : DiskState) (chain : DescriptorChain)
-    → (is_live d && d.first.ready) ≡ true
+    → serves d 0 ≡ true
     → Ok true ≡ is_given (next_chain m.bytes d.first)
     → after ≡ record d { first = after_chain d.first (next_chain m.bytes d.first) }
     → chain ≡ chain_of (next_chain m.bytes d.first)

@@ -1,13 +1,14 @@
 -- One call of the block device: the next request of its queue is served and returned, or there is
 -- none, or the ring is at fault (VIRTIO 1.1, 2.6 "Split Virtqueues" and 5.2.6 "Device Operation").
-use Rattle.std.specs.Prelude.{ℕ, ◌==◌, nat_lt, Bool, not, ◌&&◌, ◌||◌, if◌then◌else◌, Option, Some, None, Result, Ok, Err, length}
+use Rattle.std.specs.Prelude.{ℕ, ◌==◌, nat_lt, Bool, not, ◌||◌, if◌then◌else◌, Option, Some, None, Result, Ok, Err, length}
 use Rattle.page_track.specs.Memory.{Memory}
 use Rattle.virt_queue.specs.Chain.{next_chain}
 use Rattle.virt_queue.specs.Parts.{DescriptorChain}
 use Rattle.virt_queue.specs.Ring.{ring_inside, with_used, asks_interrupt, after_position}
 use Rattle.virt_queue.specs.declared.fields.RingFault.{RingFault}
 use Rattle.virt_queue.specs.declared.fields.RingFault.TheVariants.{Outside, Order}
-use Rattle.virtio_mmio.specs.Device.{Device, is_live, fail_device, raise_used}
+use Rattle.virtio_mmio.specs.Device.{Device, fail_device, raise_used}
+use Rattle.virtio_mmio.specs.Registers.{serves}
 use Rattle.virtio_blk.specs.Disk.{DiskState}
 use Rattle.virtio_blk.specs.Request.{Done, header_size, request_len, answer_len, serve_request}
 use Rattle.virtio_mmio.specs.declared.kind.Served.{Served}
@@ -82,6 +83,6 @@ serve_next device memory disk (Err fault) = broken fault device memory disk
 -- the device serves where it is live and its queue is ready
 unfoldable pub serve : Device → Memory → DiskState → Serving
 serve device memory disk =
-    if is_live device && device.first.ready
+    if serves device 0
     then serve_next device memory disk (next_chain memory.bytes device.first)
     else record { answer = served.Idle; device = device; memory = memory; disk = disk }

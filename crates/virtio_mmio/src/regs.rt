@@ -11,6 +11,7 @@ ghost use Rattle.virtio_mmio.specs.Fields.{CanHold, fields_of, device_of};
 
 use crate::fields::DeviceFields;
 use crate::kind::{Event, Kind};
+use shared_definitions::{with_high_half, with_low_half};
 use std::marker::Model;
 use virt_queue::{Queue, QueueFields, is_queue_size};
 
@@ -355,8 +356,8 @@ impl Regs {
         ensures { self.new ≡ write_driver_features self.old value }
     {
         match self.driver_features_sel {
-            0 => self.driver_features = with_low(self.driver_features, value),
-            1 => self.driver_features = with_high(self.driver_features, value),
+            0 => self.driver_features = with_low_half(self.driver_features, value),
+            1 => self.driver_features = with_high_half(self.driver_features, value),
             _ => {}
         }
     }
@@ -462,7 +463,7 @@ impl Regs {
         ensures { self.new ≡ with_desc with_low_half self.old value }
     {
         if let Some(mut q) = self.selected() {
-            q.desc = with_low(q.desc, value);
+            q.desc = with_low_half(q.desc, value);
             self.set_selected(q);
         }
     }
@@ -472,7 +473,7 @@ impl Regs {
         ensures { self.new ≡ with_desc with_high_half self.old value }
     {
         if let Some(mut q) = self.selected() {
-            q.desc = with_high(q.desc, value);
+            q.desc = with_high_half(q.desc, value);
             self.set_selected(q);
         }
     }
@@ -482,7 +483,7 @@ impl Regs {
         ensures { self.new ≡ with_driver with_low_half self.old value }
     {
         if let Some(mut q) = self.selected() {
-            q.driver = with_low(q.driver, value);
+            q.driver = with_low_half(q.driver, value);
             self.set_selected(q);
         }
     }
@@ -492,7 +493,7 @@ impl Regs {
         ensures { self.new ≡ with_driver with_high_half self.old value }
     {
         if let Some(mut q) = self.selected() {
-            q.driver = with_high(q.driver, value);
+            q.driver = with_high_half(q.driver, value);
             self.set_selected(q);
         }
     }
@@ -502,7 +503,7 @@ impl Regs {
         ensures { self.new ≡ with_device with_low_half self.old value }
     {
         if let Some(mut q) = self.selected() {
-            q.device = with_low(q.device, value);
+            q.device = with_low_half(q.device, value);
             self.set_selected(q);
         }
     }
@@ -512,22 +513,8 @@ impl Regs {
         ensures { self.new ≡ with_device with_high_half self.old value }
     {
         if let Some(mut q) = self.selected() {
-            q.device = with_high(q.device, value);
+            q.device = with_high_half(q.device, value);
             self.set_selected(q);
         }
     }
-}
-
-/// A number with another lower word.
-fn with_low(n: u64, word: u32) -> u64
-    ensures { result ≡ with_low_half n word }
-{
-    (n >> 32 << 32) + u64::from(word)
-}
-
-/// A number with another upper word.
-fn with_high(n: u64, word: u32) -> u64
-    ensures { result ≡ with_high_half n word }
-{
-    (u64::from(word) << 32) + n % 0x1_0000_0000
 }

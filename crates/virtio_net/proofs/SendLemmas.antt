@@ -1,5 +1,5 @@
 -- What one chain sends by its parts, and the chains of one notify.
-use Rattle.std.proofs.Common.{◌≡◌, ℕ, ◌+◌, ◌-◌, ◌<◌, ◌≤◌, Bool, true, false, Option, Some, None, Result, Ok, Err, List, [], ◌++◌, refl, ap, sym, ◌∙◌, append-nil, append_assoc, arith, add-one, subst, ⊎_elim}
+use Rattle.std.proofs.Common.{◌≡◌, ◌≢◌, ℕ, ◌+◌, ◌-◌, ◌<◌, ◌≤◌, Bool, true, false, Option, Some, None, Result, Ok, Err, List, [], ◌∷◌, ◌++◌, refl, ap, sym, ◌∙◌, append-nil, append_assoc, arith, add-one, subst, ⊎_elim}
 use Rattle.std.proofs.lemmas.Bool.{cases_Bool}
 use Rattle.std.specs.Prelude.{if◌then◌else◌}
 use Rattle.inet_frame.specs.Arp.{reply_bytes}
@@ -12,7 +12,8 @@ use Rattle.virt_queue.specs.Chain.{is_given, chain_of}
 use Rattle.virt_queue.specs.Parts.{DescriptorChain}
 use Rattle.virtio_mmio.specs.declared.kind.Served.{Served}
 use Rattle.virtio_mmio.specs.declared.kind.Served.TheVariants.{Done, Idle, Broken}
-use Rattle.virtio_net.specs.Port.{Card, Port, port_of, receive_queue, send_queue, queue_of, works_on, next_of, take_chain, return_chain}
+use Rattle.virtio_mmio.specs.Registers.{serves}
+use Rattle.virtio_net.specs.Port.{Card, Port, port_of, receive_queue, send_queue, queue_of, next_of, take_chain, return_chain}
 use Rattle.virtio_net.specs.Receive.{Delivery, deliver_by, deliver}
 use Rattle.virtio_net.specs.Send.{Sending, frame_in, output, request_in, answer_request, served, send_by, send_chain, send_chains, send, follow_by, follow, after_frames, fault_of, can_answer}
 use Rattle.virtio_net.proofs.PortLemmas.{none_given, some_given, given_err}
@@ -86,6 +87,16 @@ send_frame port b card chain head frame returned given is c taken h f r =
     (h ∙ ap (λ (x : DescriptorChain). x.head) taken) (f ∙ ap (frame_in port.memory.bytes) taken)
     ∙ ap (λ p. sending_of p frame) (sym r)
 
+-- its frames, by what the calls before its return answered and left
+pub frames_of_chain : (port : Port) (b : Bool) (card : Card) (chain : DescriptorChain) (frame : Option (List ℕ)) →
+    is_given (next_of port send_queue) ≡ Ok b → b ≡ true →
+    card ≡ (take_chain port send_queue (next_of port send_queue)).card →
+    chain ≡ chain_of (next_of port send_queue) → frame ≡ frame_in port.memory.bytes chain →
+    (send_chain port).frames ≡ output frame
+frames_of_chain port b card chain frame given is c taken f =
+    let returned = return_chain (port_of card port.memory) send_queue chain.head 0 in
+    ap (λ (s : Sending). s.frames) (send_frame port b card chain chain.head frame returned given is c taken refl f refl)
+
 pub served_ok : (fault : Option RingFault) → fault_of fault ≡ Ok tt → served fault ≡ Done
 served_ok None e = refl
 served_ok (Some fault) e = cc
@@ -97,22 +108,22 @@ served_err (Some fault) f e = cc
 -- ---- the card goes on working on its send queue
 
 works_after_take : (port : Port) (chain : DescriptorChain) →
-    works_on (take_chain port send_queue (Ok (Some chain))).card.device send_queue ≡ works_on port.card.device
+    serves (take_chain port send_queue (Ok (Some chain))).card.device send_queue ≡ serves port.card.device
     send_queue
 works_after_take port chain = refl
 
 works_after_receive : (port : Port) (chain : DescriptorChain) →
-    works_on (take_chain port receive_queue (Ok (Some chain))).card.device send_queue ≡ works_on port.card.device
+    serves (take_chain port receive_queue (Ok (Some chain))).card.device send_queue ≡ serves port.card.device
     send_queue
 works_after_receive port chain = refl
 
 works_raised : (asks : Bool) (d : Device) →
-    works_on (if asks then raise_used d else d) send_queue ≡ works_on d send_queue
+    serves (if asks then raise_used d else d) send_queue ≡ serves d send_queue
 works_raised true d = refl
 works_raised false d = refl
 
 works_after_return : (port : Port) (head len : ℕ) →
-    works_on (return_chain port send_queue head len).card.device send_queue ≡ works_on port.card.device send_queue
+    serves (return_chain port send_queue head len).card.device send_queue ≡ serves port.card.device send_queue
 unfolding return_chain
 works_after_return port head len =
     let d = port.card.device in
@@ -121,7 +132,7 @@ works_after_return port head len =
     (with_numbered d send_queue (record q { used = after_position q.used }))
 
 works_after_fill : (port : Port) (head len : ℕ) →
-    works_on (return_chain port receive_queue head len).card.device send_queue ≡ works_on port.card.device send_queue
+    serves (return_chain port receive_queue head len).card.device send_queue ≡ serves port.card.device send_queue
 unfolding return_chain
 works_after_fill port head len =
     let d = port.card.device in
@@ -131,26 +142,26 @@ works_after_fill port head len =
 
 works_delivered : (port : Port) (frame : List ℕ) (r : Result (Option DescriptorChain) RingFault) →
     (deliver_by port frame r).fault ≡ None →
-    works_on (deliver_by port frame r).port.card.device send_queue ≡ works_on port.card.device send_queue
+    serves (deliver_by port frame r).port.card.device send_queue ≡ serves port.card.device send_queue
 works_delivered port frame (Ok None) e = refl
 works_delivered port frame (Ok (Some chain)) e = works_after_fill _ chain.head _ ∙ works_after_receive port chain
 works_delivered port frame (Err fault) e = cc
 
 works_can : (port : Port) (ask : ArpFields) → can_answer port ≡ true → (answer_request port (Some ask)).fault ≡ None →
-    works_on (answer_request port (Some ask)).port.card.device send_queue ≡ works_on port.card.device send_queue
+    serves (answer_request port (Some ask)).port.card.device send_queue ≡ serves port.card.device send_queue
 unfolding deliver
 works_can port ask can e =
     let frame = reply_bytes ask port.card.neighbour in
     let is : answer_request port (Some ask) ≡ deliver port frame = rw can refl in
-    ap (λ (x : Delivery). works_on x.port.card.device send_queue) is
+    ap (λ (x : Delivery). serves x.port.card.device send_queue) is
     ∙ works_delivered port frame (next_of port receive_queue) (sym (ap (λ (x : Delivery). x.fault) is) ∙ e)
 
 works_cannot : (port : Port) (ask : ArpFields) → can_answer port ≡ false →
-    works_on (answer_request port (Some ask)).port.card.device send_queue ≡ works_on port.card.device send_queue
+    serves (answer_request port (Some ask)).port.card.device send_queue ≡ serves port.card.device send_queue
 works_cannot port ask cannot = rw cannot refl
 
 works_answered : (port : Port) (ask : Option ArpFields) → (answer_request port ask).fault ≡ None →
-    works_on (answer_request port ask).port.card.device send_queue ≡ works_on port.card.device send_queue
+    serves (answer_request port ask).port.card.device send_queue ≡ serves port.card.device send_queue
 works_answered port None e = refl
 works_answered port (Some ask) e =
     ⊎_elim
@@ -163,7 +174,7 @@ fault_none None e = refl
 fault_none (Some fault) e = cc
 
 works_sent : (port : Port) (r : Result (Option DescriptorChain) RingFault) → (send_by port r).answer ≡ Done →
-    works_on (send_by port r).port.card.device send_queue ≡ works_on port.card.device send_queue
+    serves (send_by port r).port.card.device send_queue ≡ serves port.card.device send_queue
 works_sent port (Ok None) e = cc
 works_sent port (Ok (Some chain)) e =
     let taken = take_chain port send_queue (Ok (Some chain)) in
@@ -172,10 +183,15 @@ works_sent port (Ok (Some chain)) e =
     ∙ (works_after_return taken chain.head 0 ∙ works_after_take port chain)
 works_sent port (Err fault) e = cc
 
-pub works_on_after : (port : Port) → (send_chain port).answer ≡ Done →
-    works_on (send_chain port).port.card.device send_queue ≡ works_on port.card.device send_queue
+pub serves_after : (port : Port) → (send_chain port).answer ≡ Done →
+    serves (send_chain port).port.card.device send_queue ≡ serves port.card.device send_queue
 unfolding send_chain
-works_on_after port e = works_sent port (next_of port send_queue) e
+serves_after port e = works_sent port (next_of port send_queue) e
+
+-- what the registers answered, of the card that has them
+pub serves_is : (card now : Card) (answer b : Bool) → card ≡ now → answer ≡ serves card.device send_queue →
+    answer ≡ b → serves now.device send_queue ≡ b
+serves_is card now answer b same e is = sym (ap (λ (x : Card). serves x.device send_queue) same) ∙ (sym e ∙ is)
 
 -- ---- the chains of one notify
 
@@ -184,9 +200,9 @@ pub record Underway (start now : Port) (num k : ℕ) (so_far : Served) (before o
   pub frames : List (List ℕ)
   pub out_is : out ≡ before ++ frames
   pub rest : after_frames frames (send_chains (num - k) so_far now) ≡ send_chains num Idle start
-  pub works : works_on now.card.device send_queue ≡ true
+  pub works : serves now.card.device send_queue ≡ true
 
-pub sends_begin : (start : Port) (num : ℕ) (out : List (List ℕ)) → works_on start.card.device send_queue ≡ true →
+pub sends_begin : (start : Port) (num : ℕ) (out : List (List ℕ)) → serves start.card.device send_queue ≡ true →
     Underway start start num 0 Idle out out
 sends_begin start num out works = let whole : num - 0 ≡ num = omega arith in record {
   frames = [];
@@ -228,7 +244,7 @@ sends_go_on start now num k so_far before out next more u lt done is frames = re
       (k + 1))
       Done (send_chain now).port))) done)
       ∙ rest_is start now num k so_far before out u lt));
-  works = ap (λ (p : Port). works_on p.card.device send_queue) is ∙ (works_on_after now done ∙ u.works);
+  works = ap (λ (p : Port). serves p.card.device send_queue) is ∙ (serves_after now done ∙ u.works);
 }
 
 -- a notify that ends at a chain, or without one
@@ -265,20 +281,49 @@ sends_all start now num k so_far before out u le =
           ∙ sym (ap (λ (s : Sending). before ++ s.frames) whole));
     }
 
-pub send_live : (port : Port) → works_on port.card.device send_queue ≡ true →
+pub send_live : (port : Port) → serves port.card.device send_queue ≡ true →
     send port ≡ send_chains (queue_of port.card.device send_queue).num Idle port
 unfolding send
 send_live port w = rw w refl
 
 -- what was sent of so many chains is what the notify sends
 pub of_notify : (start : Port) (num : ℕ) (answer : Served) (port : Port) (before out : List (List ℕ)) →
-    num ≡ (queue_of start.card.device send_queue).num → works_on start.card.device send_queue ≡ true →
+    num ≡ (queue_of start.card.device send_queue).num → serves start.card.device send_queue ≡ true →
     IsSent (send_chains num Idle start) answer port before out → IsSent (send start) answer port before out
 of_notify start num answer port before out is works sent =
     subst (λ (s : Sending). IsSent s answer port before out)
     (sym (send_live start works ∙ ap (λ (n : ℕ). send_chains n Idle start) (sym is))) sent
 
-pub send_idle : (port : Port) → works_on port.card.device send_queue ≡ false →
+-- ---- what a notify sends, one of its chains sends
+
+pub after_empty : (xs ys : List (List ℕ)) → xs ++ ys ≡ [] → ys ≡ []
+after_empty [] ys e = e
+after_empty (x ∷ xs) ys e = absurd (let no : ⊥ = cc in no)
+
+pub before_empty : (xs ys : List (List ℕ)) → xs ++ ys ≡ [] → xs ≡ []
+before_empty [] ys e = refl
+before_empty (x ∷ xs) ys e = absurd (let no : ⊥ = cc in no)
+
+step_empty : (a : Served) (step : Sending) (so_far : Served) (rest : Sending) →
+    (follow_by a step so_far rest).frames ≡ [] → step.frames ≡ []
+step_empty Done step so_far rest e = before_empty step.frames rest.frames e
+step_empty Idle step so_far rest e = e
+step_empty (Broken fault) step so_far rest e = e
+
+pub chain_of_notify : (start now : Port) (num k : ℕ) (so_far : Served) (before out : List (List ℕ)) →
+    Underway start now num k so_far before out → k < num →
+    num ≡ (queue_of start.card.device send_queue).num → serves start.card.device send_queue ≡ true →
+    (send_chain now).frames ≢ [] → (send start).frames ≢ []
+chain_of_notify start now num k so_far before out u lt is works some none =
+    let rest = send_chains (num - (k + 1)) Done (send_chain now).port in
+    let after = follow (send_chain now) so_far rest in
+    let whole : after_frames u.frames after ≡ send start =
+    rest_is start now num k so_far before out u lt
+    ∙ (ap (λ (n : ℕ). send_chains n Idle start) is ∙ sym (send_live start works)) in
+    let empty : u.frames ++ after.frames ≡ [] = ap (λ (s : Sending). s.frames) whole ∙ none in
+    some (step_empty (send_chain now).answer (send_chain now) so_far rest (after_empty u.frames after.frames empty))
+
+pub send_idle : (port : Port) → serves port.card.device send_queue ≡ false →
     send port ≡ (let none : Sending = record { port = port; frames = []; answer = Idle } in none)
 unfolding send
 send_idle port w = rw w refl

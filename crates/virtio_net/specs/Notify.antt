@@ -4,7 +4,8 @@ use Rattle.std.specs.Prelude.{◌≡◌, ◌⊎◌, ◌≤◌, ◌<◌, ℕ, zer
 use Rattle.virt_queue.specs.declared.fields.RingFault.{RingFault}
 use Rattle.virtio_mmio.specs.declared.kind.Served.{Served}
 use Rattle.virtio_mmio.specs.declared.kind.Served.TheVariants.{Done, Idle, Broken}
-use Rattle.virtio_net.specs.Port.{Port, send_queue, queue_of, works_on}
+use Rattle.virtio_mmio.specs.Registers.{serves}
+use Rattle.virtio_net.specs.Port.{Port, send_queue, queue_of}
 use Rattle.virtio_net.specs.Send.{Sending, send_chain, send}
 
 -- the port after k chains
@@ -55,5 +56,5 @@ pub record SendsChains (most : ℕ) (so_far : Served) (port : Port) (sending : S
 
 -- one notify of a card that works on its queue sends at most as many chains as the queue's number
 abbrev pub NotifySends : Port → Type 0
-NotifySends port = works_on port.card.device send_queue ≡ true →
+NotifySends port = serves port.card.device send_queue ≡ true →
     SendsChains (queue_of port.card.device send_queue).num Idle port (send port)

@@ -1,15 +1,17 @@
 -- A network card and the memory that it works on: its queues, the chains that it takes from them
 -- and returns (VIRTIO 1.1, 2.6.13 "Supplying Buffers to The Device", 2.6.14 "Receiving Used Buffers
 -- From The Device" and 5.1 "Network Device").
-use Rattle.std.specs.Prelude.{ℕ, ◌==◌, Bool, ◌&&◌, if◌then◌else◌, Option, Result, Ok, Err, List}
+use Rattle.std.specs.Prelude.{ℕ, ◌==◌, if◌then◌else◌, Option, Result, Ok, Err, List, replicate}
 use Rattle.page_track.specs.Memory.{Memory}
 use Rattle.virt_queue.specs.declared.fields.QueueFields.{QueueFields}
 use Rattle.virt_queue.specs.declared.fields.RingFault.{RingFault}
 use Rattle.virt_queue.specs.Chain.{next_chain, after_chain}
 use Rattle.virt_queue.specs.Parts.{DescriptorChain}
 use Rattle.virt_queue.specs.Ring.{with_used, asks_interrupt, after_position}
-use Rattle.virtio_mmio.specs.Device.{Device, is_live, fail_device, raise_used}
-use Rattle.virtio_mmio.specs.Registers.{has_queue}
+use Rattle.virtio_mmio.specs.Device.{Device, fail_device, raise_used}
+use Rattle.virtio_mmio.specs.Registers.{write_event, write_register}
+use Rattle.virtio_mmio.specs.declared.kind.Event.{Event}
+use Rattle.virtio_mmio.specs.declared.kind.Event.TheVariants.{Nothing, Notify, Reset, Ack}
 use Rattle.virtio_mmio.specs.Lending.{with_numbered}
 
 -- a network card: its registers and queues, and the MAC address of its neighbour, all 0 before a
@@ -26,6 +28,20 @@ pub record Port : Type 0 where
 abbrev pub port_of : Card → Memory → Port
 port_of card memory = record { card = card; memory = memory }
 
+-- a reset of the card forgets its neighbour
+abbrev pub neighbour_after : Event → List ℕ → List ℕ
+neighbour_after Nothing neighbour = neighbour
+neighbour_after (Notify queue) neighbour = neighbour
+neighbour_after Reset neighbour = replicate 6 0
+neighbour_after Ack neighbour = neighbour
+
+-- the card after the driver wrote to a register
+abbrev pub write_card : Card → ℕ → ℕ → Card
+write_card card offset value = record {
+  device = write_register card.device offset value;
+  neighbour = neighbour_after (write_event offset value) card.neighbour;
+}
+
 -- the port with another device
 abbrev pub with_device : Port → Device → Port
 with_device port device = record port { card = record port.card { device = device } }
@@ -39,10 +55,6 @@ send_queue = 1
 
 abbrev pub queue_of : Device → ℕ → QueueFields
 queue_of d k = if k == 0 then d.first else d.second
-
--- whether the device works on its queue k: the driver runs, no fault came, and the queue is ready
-abbrev pub works_on : Device → ℕ → Bool
-works_on d k = is_live d && (has_queue d k && (queue_of d k).ready)
 
 -- the next chain of queue k
 abbrev pub next_of : Port → ℕ → Result (Option DescriptorChain) RingFault

@@ -6,7 +6,8 @@ use Rattle.virt_queue.specs.Chain.{waits}
 use Rattle.virt_queue.specs.Parts.{DescriptorChain, writable, total_len, write_joined}
 use Rattle.virtio_net.specs.declared.net.Received.{Received}
 use Rattle.virtio_net.specs.declared.net.Received.TheVariants.{Taken, Broken}
-use Rattle.virtio_net.specs.Port.{Port, receive_queue, works_on, next_of, take_chain, return_chain}
+use Rattle.virtio_mmio.specs.Registers.{serves}
+use Rattle.virtio_net.specs.Port.{Port, receive_queue, next_of, take_chain, return_chain}
 
 -- the header before each frame: all 0 but the number of buffers, which is 1 (5.1.6 "Device
 -- Operation")
@@ -15,7 +16,7 @@ header = 0 ∷ 0 ∷ 0 ∷ 0 ∷ 0 ∷ 0 ∷ 0 ∷ 0 ∷ 0 ∷ 0 ∷ 1 ∷ 0 ∷
 
 -- whether the card can receive: it works on the queue, and there is a chain or a fault
 abbrev pub can_receive : Port → Bool
-can_receive port = works_on port.card.device receive_queue && waits (next_of port receive_queue)
+can_receive port = serves port.card.device receive_queue && waits (next_of port receive_queue)
 
 -- whether the writable parts of a chain have space for the header and a frame
 abbrev pub has_space : DescriptorChain → List ℕ → Bool

@@ -12,7 +12,8 @@ use Rattle.inet_frame.specs.declared.parser.Seen.{Seen}
 use Rattle.inet_frame.specs.declared.parser.Seen.TheVariants.{Tcp, Arp, Udp, Other}
 use Rattle.virtio_mmio.specs.declared.kind.Served.{Served}
 use Rattle.virtio_mmio.specs.declared.kind.Served.TheVariants.{Done, Idle, Broken}
-use Rattle.virtio_net.specs.Port.{Port, send_queue, queue_of, works_on, next_of, take_chain, return_chain}
+use Rattle.virtio_mmio.specs.Registers.{serves}
+use Rattle.virtio_net.specs.Port.{Port, send_queue, queue_of, next_of, take_chain, return_chain}
 use Rattle.virtio_net.specs.Receive.{Delivery, header, can_receive, deliver}
 
 -- ---- the frame in a chain
@@ -118,7 +119,7 @@ send_chains (suc n) so_far port =
 unfoldable pub send : Port → Sending
 send port =
     let d = port.card.device in
-    if works_on d send_queue then send_chains (queue_of d send_queue).num Idle port
+    if serves d send_queue then send_chains (queue_of d send_queue).num Idle port
     else record { port = port; frames = []; answer = Idle }
 
 -- ---- what the calls answer

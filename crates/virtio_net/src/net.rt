@@ -7,12 +7,13 @@ ghost use Rattle.virt_queue.specs.Chain.{is_given, chain_of};
 ghost use Rattle.virt_queue.specs.Parts.{parts_inside};
 ghost use Rattle.virtio_mmio.specs.Device.{reset_device};
 ghost use Rattle.virtio_mmio.specs.declared.kind.Kind.TheVariants.{Network};
-ghost use Rattle.virtio_net.specs.Port.{port_of, queue_of, works_on, next_of, take_chain, return_chain};
+ghost use Rattle.virtio_mmio.specs.Registers.{serves, write_event};
+ghost use Rattle.virtio_net.specs.Port.{port_of, queue_of, next_of, take_chain, return_chain, write_card};
 
 use page_track::Ram;
 use std::marker::Model;
 use virt_queue::{Chain, RingFault};
-use virtio_mmio::{Kind, Regs};
+use virtio_mmio::{Event, Kind, Regs};
 
 /// What became of a frame that was received.
 #[derive(Clone, Copy, Debug, PartialEq, Eq)]
@@ -61,7 +62,20 @@ impl Net {
         &self.regs
     }
 
-    /// The registers, to be written.
+    /// Writes a register, as the driver does (VIRTIO 1.1, 4.2.2): what `Regs::write` does and
+    /// answers, and a reset forgets the neighbour too.
+    pub fn write(&mut self, offset: u32, value: u32) -> Event
+        ensures event { result ≡ write_event offset value }
+        ensures card { self.new ≡ write_card self.old offset value }
+    {
+        let event = self.regs.write(offset, value);
+        if let Event::Reset = event {
+            self.neighbour = [0; 6];
+        }
+        event
+    }
+
+    /// The registers, to be set as a whole; the driver's stores go through [`Net::write`].
     pub fn regs_mut(&mut self) -> &mut Regs
         ensures* writes_back { sem 𝓛 (LendsRegs self.entry result) }
         ensures regs { result.now ≡ self.old.device }
@@ -85,18 +99,9 @@ impl Net {
         self.neighbour = mac;
     }
 
-    /// Whether the device works on its queue `k`, which is 0 or 1.
-    pub(crate) fn works_on(&self, k: u32) -> bool
-        requires { k < 2 }
-        ensures { result ≡ works_on self.now.device k }
-    {
-        let fields = self.regs.fields();
-        self.regs.is_live() && fields.queues[k as usize].ready
-    }
-
     /// Takes the next chain of a queue; a fault makes the device fail.
     pub(crate) fn take(&mut self, k: u32, ram: &Ram, chain: &mut Chain) -> Result<bool, RingFault>
-        requires { IsTrue (works_on self.old.device k) }
+        requires { IsTrue (serves self.old.device k) }
         ensures answer { result ≡ is_given (next_of (port_of self.old ram.now) k) }
         ensures chain { chain.new ≡ chain_of (next_of (port_of self.old ram.now) k) }
         ensures card { let port = port_of self.old ram.now in
@@ -117,7 +122,7 @@ impl Net {
     /// Returns a chain that was taken from a queue.
     #[tactic(auto, unfolding(crate::specs::Port::return_chain))]
     pub(crate) fn give_back(&mut self, k: u32, ram: &mut Ram, head: u32, len: u32)
-        requires queue { IsTrue (works_on self.old.device k) }
+        requires queue { IsTrue (serves self.old.device k) }
         requires ring { IsTrue (ring_inside (length ram.old.bytes) (queue_of self.old.device k)) }
         ensures port { port_of self.new ram.new
             ≡ return_chain (port_of self.old ram.old) k head len }

@@ -22,7 +22,7 @@ impl Net {
     pub fn can_receive(&self, ram: &Ram) -> bool
         ensures { result ≡ can_receive (port_of self.now ram.now) }
     {
-        if !self.works_on(0) {
+        if !self.regs.serves(0) {
             return false;
         }
         let fields = self.regs.fields();

@@ -1,10 +1,11 @@
 //! How the driver sends frames.
 
-ghost use Rattle.std.specs.Prelude.{◌≡◌, ◌++◌, length, IsTrue, IfOk, OnOk, OnErr};
+ghost use Rattle.std.specs.Prelude.{◌≡◌, ◌≢◌, [], ◌++◌, length, IsTrue, IfOk, OnOk, OnErr};
 ghost use Rattle.std.specs.Option.{option_copied};
 ghost use Rattle.virt_queue.specs.Parts.{parts_inside};
 ghost use Rattle.virtio_net.specs.Notify.{NotifySends};
-ghost use Rattle.virtio_net.specs.Port.{Port, port_of, send_queue, works_on};
+ghost use Rattle.virtio_mmio.specs.Registers.{serves};
+ghost use Rattle.virtio_net.specs.Port.{Port, port_of, send_queue};
 ghost use Rattle.virtio_net.specs.Send.{frame_in, output, request_in, answer_request, send_chain, send, fault_of, is_known, Begins};
 
 use crate::net::Net;
@@ -28,8 +29,9 @@ impl Net {
     /// Each chain is returned with length 0.
     ///
     /// `Idle` comes exactly where the card doesn't work on the queue or no chain is available,
-    /// `Broken` with the first fault of the rings, and else `Done`. After `NoMemory` nothing is
-    /// said but that `out` begins with what it held, and that memory has its size.
+    /// `Broken` with the first fault of the rings, and else `Done`. `NoMemory` comes only where a
+    /// frame goes out; then nothing is said of the rest but that `out` begins with what it held, and
+    /// that memory has its size.
     pub fn sent(&mut self, ram: &mut Ram, out: &mut Frames) -> Result<Served, NoMemory>
         ensures answer { IfOk result (λ answer. answer ≡ (send (port_of self.old ram.old)).answer) }
         ensures port { OnOk result
@@ -37,10 +39,11 @@ impl Net {
         ensures frames { OnOk result
             (out.new ≡ out.old ++ (send (port_of self.old ram.old)).frames) }
         ensures begins { OnErr result (Begins out.old out.new) }
+        ensures cause { OnErr result ((send (port_of self.old ram.old)).frames ≢ []) }
         ensures kind { self.new.device.kind ≡ self.old.device.kind }
         ensures size { length ram.new.bytes ≡ length ram.old.bytes }
     {
-        if !self.works_on(1) {
+        if !self.regs.serves(1) {
             return Ok(Served::Idle);
         }
         let most = self.regs.fields().queues[1].num;
@@ -57,7 +60,7 @@ impl Net {
 
     /// Sends the next chain of queue 1. `Idle` is that there is none.
     fn send_chain(&mut self, ram: &mut Ram, out: &mut Frames) -> Result<Served, NoMemory>
-        requires { IsTrue (works_on self.old.device send_queue) }
+        requires { IsTrue (serves self.old.device send_queue) }
         ensures answer { IfOk result
             (λ answer. answer ≡ (send_chain (port_of self.old ram.old)).answer) }
         ensures port { OnOk result
@@ -65,6 +68,7 @@ impl Net {
         ensures frames { OnOk result
             (out.new ≡ out.old ++ (send_chain (port_of self.old ram.old)).frames) }
         ensures err { OnErr result (out.new ≡ out.old) }
+        ensures cause { OnErr result ((send_chain (port_of self.old ram.old)).frames ≢ []) }
         ensures kind { self.new.device.kind ≡ self.old.device.kind }
         ensures size { length ram.new.bytes ≡ length ram.old.bytes }
     {
@@ -131,6 +135,7 @@ fn frame_in<'b>(chain: &Chain, ram: &Ram, buffer: &'b mut [u8; TOO_LONG]) -> Opt
 fn push_output(out: &mut Frames, frame: Option<&[u8]>) -> Result<(), NoMemory>
     ensures ok { OnOk result (out.new ≡ out.old ++ output (option_copied frame.entry)) }
     ensures err { OnErr result (out.new ≡ out.old) }
+    ensures cause { OnErr result (output (option_copied frame.entry) ≢ []) }
 {
     match frame {
         Some(frame) if !is_arp(frame) => out.push(frame),

@@ -4,7 +4,7 @@ use Rattle.std.specs.Option.{option_copied}
 use Rattle.state_wire.specs.Guest.{turn_of}
 use Rattle.guest_machine.specs.Turn.{State, finish_turn, make_turn}
 use Rattle.guest_machine.proofs.StateLemmas.{after_is, sent_is}
-use Rattle.guest_machine.proofs.TurnLemmas.{on_both, on_ok, sizes_then}
+use Rattle.guest_machine.proofs.TurnLemmas.{on_both, on_err, on_ok, sizes_then}
 use Rattle.guest_machine.proofs.machine.MachineGuest.turn.Goals as goal
 
 pub returns-clause-state : goal.returns-clause-state
@@ -41,3 +41,11 @@ returns-clause-sent g c =
     (λ e. sent_is c.args.self.now turn c.args.out.now c.finish_turn.new.out c.check_parts.ensures
     (e ∙ ap (λ (s : State). c.args.out.now ++ (finish_turn s c.args.steps).frames) c.start_turn.ensures.state))
     c.finish_turn.ensures.frames
+
+pub returns-clause-cause : goal.returns-clause-cause
+unfolding make_turn
+returns-clause-cause g c =
+    on_err _ _ c.finish_turn.result
+    (λ some fresh none. some (ap (λ (s : State). (finish_turn s c.args.steps).frames) c.start_turn.ensures.state
+    ∙ none))
+    c.finish_turn.ensures.cause

@@ -1,6 +1,7 @@
 -- What the instruction left is taken over, and its trap is entered.
+use Rattle.std.proofs.lemmas.Result.{err_from_is_err_and}
 use Rattle.rv_platform.specs.Settled.{platform_of}
-use Rattle.rv_platform.proofs.ExecuteLemmas.{kinds_executed, left_execution, same_time, still_settled}
+use Rattle.rv_platform.proofs.ExecuteLemmas.{kinds_executed, left_execution, sends_execution, same_time, still_settled}
 use Rattle.rv_platform.proofs.StepLemmas.{kinds_then}
 use Rattle.rv_platform.proofs.parts.Parts.execute.Goals as goal
 
@@ -18,6 +19,13 @@ returns-in_err-catch_up-clause-kinds c = kinds_then (platform_of c.args.self.now
     (kinds_executed c.args.self.now c.execute.new.self c.execute.new.csrs c.execute.new.bus
     c.in_ok-outcome.ensures.one_store)
     c.catch_up.ensures.kinds
+
+pub returns-in_err-catch_up-clause-cause : goal.returns-in_err-catch_up-clause-cause
+returns-in_err-catch_up-clause-cause c = λ word is.
+    let r = err_from_is_err_and c.from_residual-in_err-catch_up.result c.from_residual-in_err-catch_up.ensures.1 in
+    rw r.1 (sends_execution c.args.self.now c.requires.settled c.in_ok-outcome.outcome c.execute.new.self
+    c.execute.new.csrs c.execute.new.bus word c.args.instr.now (c.in_ok-outcome.ensures.effect word is)
+    c.in_err-catch_up.ensures.cause)
 
 pub returns-clause-ok : goal.returns-clause-ok
 returns-clause-ok c = λ word is.

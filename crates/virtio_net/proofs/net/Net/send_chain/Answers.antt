@@ -1,10 +1,11 @@
 use Rattle.std.proofs.Common.{◌≡◌, ◌∙◌, ◌++◌, ap, sym}
+use Rattle.std.proofs.lemmas.Result.{err_from_is_err_and}
 use Rattle.std.specs.Option.{option_copied}
 use Rattle.virtio_mmio.specs.declared.kind.Served.TheVariants.{Idle, Broken}
 use Rattle.virtio_net.specs.Port.{port_of, next_of, take_chain, send_queue}
 use Rattle.virtio_net.specs.Send.{Sending, send_chain}
 use Rattle.virtio_net.proofs.PortLemmas.{some_given, ring_of_chain}
-use Rattle.virtio_net.proofs.SendLemmas.{IsSent, send_none, send_fault, send_frame, sending_of, served_ok, served_err}
+use Rattle.virtio_net.proofs.SendLemmas.{IsSent, frames_of_chain, send_none, send_fault, send_frame, sending_of, served_ok, served_err}
 use Rattle.virtio_net.proofs.net.Net.send_chain.Goals as goal
 use Rattle.virtio_net.proofs.net.Net.send_chain.Goals.{In-Ok-false, In-Err, After-give_back}
 
@@ -85,3 +86,12 @@ returns-in-Err-answer_request-clause-frames c =
     c.in_ok-push_output.ensures.ok
     ∙ sym (ap (λ (x : Sending). c.args.out.now ++ x.frames)
     (sends (goal.at.returns-in-Err-answer_request-clause-frames c).After-give_back))
+
+pub returns-in_err-push_output-clause-cause : goal.returns-in_err-push_output-clause-cause
+returns-in_err-push_output-clause-cause c =
+    let port = port_of c.args.self.now c.args.ram.now in
+    let sent = frames_of_chain port _ c.take.new.self c.take.new.chain (option_copied c.frame_in-frame.result)
+    (sym c.in-Ok-true.ensures.answer) c.in-Ok-true.field-0-test c.take.ensures.card c.take.ensures.chain
+    c.frame_in-frame.ensures in
+    let p = err_from_is_err_and c.from_residual.result c.from_residual.ensures.1 in
+    rw p.1 (λ none. c.in_err-push_output.ensures.cause (sym sent ∙ none))

@@ -5,32 +5,32 @@ use Rattle.virtio_mmio.specs.declared.fields.DeviceFields.{DeviceFields}
 use Rattle.virt_queue.specs.Queue.{no_queue}
 use Rattle.virtio_net.specs.Port.{Card, port_of}
 use Rattle.virtio_net.specs.Send.{Sending, send_chain, send}
-use Rattle.virtio_net.proofs.SendLemmas.{IsSent, sends_begin, sends_go_on, sends_end, sends_all, of_notify, send_idle}
+use Rattle.virtio_net.proofs.SendLemmas.{IsSent, chain_of_notify, sends_begin, sends_go_on, sends_end, sends_all, serves_is, of_notify, send_idle}
 use Rattle.virtio_net.proofs.net.Net.sent.Goals as goal
 use Rattle.virtio_net.proofs.net.Net.sent.Goals.{In-Idle, In-Broken, After-loop}
 
-pub returns-then-not-works_on-clause-answer : goal.returns-then-not-works_on-clause-answer
-returns-then-not-works_on-clause-answer c =
+pub returns-then-not-serves-clause-answer : goal.returns-then-not-serves-clause-answer
+returns-then-not-serves-clause-answer c =
     let start = port_of c.args.self.now c.args.ram.now in
-    let idle = send_idle start (sym c.works_on.ensures ∙ c.if-not-works_on.true) in
+    let idle = send_idle start (serves_is _ c.args.self.now _ _ c.self.view_is c.serves.ensures c.if-not-serves.true) in
     rw idle refl
 
-pub returns-then-not-works_on-clause-port : goal.returns-then-not-works_on-clause-port
-returns-then-not-works_on-clause-port c =
+pub returns-then-not-serves-clause-port : goal.returns-then-not-serves-clause-port
+returns-then-not-serves-clause-port c =
     let start = port_of c.args.self.now c.args.ram.now in
-    let idle = send_idle start (sym c.works_on.ensures ∙ c.if-not-works_on.true) in
+    let idle = send_idle start (serves_is _ c.args.self.now _ _ c.self.view_is c.serves.ensures c.if-not-serves.true) in
     rw idle refl
 
-pub returns-then-not-works_on-clause-frames : goal.returns-then-not-works_on-clause-frames
-returns-then-not-works_on-clause-frames c =
+pub returns-then-not-serves-clause-frames : goal.returns-then-not-serves-clause-frames
+returns-then-not-serves-clause-frames c =
     let start = port_of c.args.self.now c.args.ram.now in
-    let idle = send_idle start (sym c.works_on.ensures ∙ c.if-not-works_on.true) in
+    let idle = send_idle start (serves_is _ c.args.self.now _ _ c.self.view_is c.serves.ensures c.if-not-serves.true) in
     sym (ap (λ (s : Sending). c.args.out.now ++ s.frames) idle ∙ append-nil c.args.out.now)
 
 pub loop-init : goal.loop-init
 loop-init c =
     let start = port_of c.args.self.now c.args.ram.now in
-    let works = sym c.works_on.ensures ∙ c.if-not-works_on.false in (
+    let works = serves_is _ c.args.self.now _ _ c.self.view_is c.serves.ensures c.if-not-serves.false in (
       ap (λ (f : DeviceFields). (slice_index_or f.queues 1 no_queue).num) c.fields.ensures.value
           ∙ ap (λ (x : Card). x.device.second.num) c.self.view_is,
       sends_begin start _ c.args.out.now works,
@@ -52,7 +52,7 @@ idle : (c : In-Idle) → IsSent (send (port_of c.args.self.now c.args.ram.now)) 
     (port_of c.send_chain.new.self c.send_chain.new.ram) c.args.out.now c.send_chain.new.out
 idle c =
     let start = port_of c.args.self.now c.args.ram.now in
-    of_notify start _ _ _ _ _ c.loop.invariant.0 (sym c.works_on.ensures ∙ c.if-not-works_on.false)
+    of_notify start _ _ _ _ _ c.loop.invariant.0 (serves_is _ c.args.self.now _ _ c.self.view_is c.serves.ensures c.if-not-serves.false)
     (sends_end start (port_of c.loop.self c.loop.ram) _ c.loop.counter c.loop.so_far c.args.out.now c.loop.out Idle
     c.loop.so_far (port_of c.send_chain.new.self c.send_chain.new.ram) c.send_chain.new.out c.loop.invariant.1
     c.loop-test.true (sym c.in_ok-send_chain.ensures.answer ∙ c.in-Idle.is) (λ rest. refl)
@@ -74,7 +74,7 @@ broken c =
     let start = port_of c.args.self.now c.args.ram.now in
     let now = port_of c.loop.self c.loop.ram in
     let last = sym c.in_ok-send_chain.ensures.answer ∙ c.in-Broken.is in
-    of_notify start _ _ _ _ _ c.loop.invariant.0 (sym c.works_on.ensures ∙ c.if-not-works_on.false)
+    of_notify start _ _ _ _ _ c.loop.invariant.0 (serves_is _ c.args.self.now _ _ c.self.view_is c.serves.ensures c.if-not-serves.false)
     (sends_end start now _ c.loop.counter c.loop.so_far c.args.out.now c.loop.out (Broken c.in-Broken.fault)
     (Broken c.in-Broken.fault) (port_of c.send_chain.new.self c.send_chain.new.ram) c.send_chain.new.out
     c.loop.invariant.1 c.loop-test.true last (λ rest i. record (send_chain now) { answer = last i })
@@ -108,7 +108,7 @@ all : (c : After-loop) → IsSent (send (port_of c.args.self.now c.args.ram.now)
     (port_of c.loop.self c.loop.ram) c.args.out.now c.loop.out
 all c =
     let start = port_of c.args.self.now c.args.ram.now in
-    of_notify start _ _ _ _ _ c.loop.invariant.0 (sym c.works_on.ensures ∙ c.if-not-works_on.false)
+    of_notify start _ _ _ _ _ c.loop.invariant.0 (serves_is _ c.args.self.now _ _ c.self.view_is c.serves.ensures c.if-not-serves.false)
     (sends_all start (port_of c.loop.self c.loop.ram) _ c.loop.counter c.loop.so_far c.args.out.now c.loop.out
     c.loop.invariant.1 c.loop-test.false)
 
@@ -120,3 +120,11 @@ returns-clause-port c = (all (goal.at.returns-clause-port c).After-loop).port_is
 
 pub returns-clause-frames : goal.returns-clause-frames
 returns-clause-frames c = (all (goal.at.returns-clause-frames c).After-loop).frames_are
+
+pub returns-in_err-send_chain-clause-cause : goal.returns-in_err-send_chain-clause-cause
+returns-in_err-send_chain-clause-cause c =
+    let start = port_of c.args.self.now c.args.ram.now in
+    let p = err_from_is_err_and c.from_residual.result c.from_residual.ensures.1 in
+    rw p.1 (chain_of_notify start (port_of c.loop.self c.loop.ram) _ c.loop.counter c.loop.so_far c.args.out.now
+    c.loop.out c.loop.invariant.1 c.loop-test.true c.loop.invariant.0 (serves_is _ c.args.self.now _ _ c.self.view_is c.serves.ensures c.if-not-serves.false)
+    c.in_err-send_chain.ensures.cause)
