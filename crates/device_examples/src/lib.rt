@@ -5,6 +5,8 @@
 #[cfg(test)]
 mod block;
 #[cfg(test)]
+mod calls;
+#[cfg(test)]
 mod disk;
 #[cfg(test)]
 mod network;
@@ -14,3 +16,5 @@ mod pages;
 mod registers;
 #[cfg(test)]
 mod rings;
+#[cfg(test)]
+mod scene;

@@ -1,119 +1,280 @@
 //! Worked examples: chains, faults and positions. The bytes of the rings are written out by hand.
 
-ghost use Rattle.std.specs.Prelude.{IsTrue};
-ghost use Rattle.virt_queue.specs.Queue.{is_queue_size, is_legal};
-
+use crate::calls::{broken, joined, memory};
+use crate::scene::play;
 use page_track::Ram;
 use std::alloc::{AllocError, Global};
 use std::test::Fail;
-use virt_queue::{Chain, Part, Queue, QueueFields, RingFault};
+use virt_queue::{Chain, Queue, QueueFields, RingFault, is_queue_size};
+use worked_steps::{Answer, Scene, nothing, number, word, yes_or_no};
 
-const DESC: u64 = 0x8000_0000;
+/// A queue over a MiB of memory, and the chain that was taken last. Descriptors stand at
+/// 0x80000000, the available ring at 0x80004000, and the used ring at 0x80005000.
+#[derive(Drop)]
+struct Ring {
+    ram: Ram,
+    queue: Queue,
+    chain: Chain,
+}
 
-const DRIVER: u64 = 0x8000_4000;
-
-const DEVICE: u64 = 0x8000_5000;
-
-fn put(ram: &mut Ram, addr: u64, bytes: &[u8]) {
-    if ram.holds(addr, bytes.len() as u64) {
-        ram.write(addr, bytes);
+impl Scene for Ring {
+    fn call(&mut self, name: &str, n: &[u32; 6]) -> Answer {
+        match name {
+            "set" => set(&mut self.queue, n[0], n[1]),
+            "waits" => waits(&self.queue, &self.ram),
+            "next" => next(&mut self.queue, &self.ram, &mut self.chain),
+            "push" => push(&mut self.queue, &mut self.ram, n[0], n[1]),
+            "position" => number(u64::from(self.queue.fields().next)),
+            "used" => number(u64::from(self.queue.fields().used)),
+            "line_up" => line_up(&mut self.ram),
+            "read" | "count" => read_next(&mut self.queue, &self.ram, name, u64::from(n[0])),
+            "write" => write_next(&mut self.queue, &mut self.ram, u64::from(n[0])),
+            "fill" => fill(&self.chain, &mut self.ram, n),
+            "part" => joined(self.chain.part(&self.ram, n[0] as usize)),
+            "addr" | "len" | "writable" => part_of(&self.chain, name, n[0] as usize),
+            "head" | "parts" | "empty" | "readable_len" | "writable_len" => {
+                about(&self.chain, name)
+            }
+            _ => memory(&mut self.ram, name, n),
+        }
     }
 }
 
-/// Fields of a ready queue at both positions.
-fn fields(num: u32, position: u16) -> QueueFields
-    requires { IsTrue (is_queue_size num) }
-    ensures legal { IsTrue (is_legal result) }
-    ensures ready { IsTrue result.ready }
-{
-    QueueFields {
+impl Ring {
+    fn new(alloc: Global) -> Result<Ring, AllocError> {
+        Ok(Ring {
+            ram: Ram::new(alloc, 1)?,
+            queue: Queue::new(),
+            chain: Chain::new(),
+        })
+    }
+}
+
+/// Makes the queue ready with a number and at a position of both rings.
+fn set(queue: &mut Queue, num: u32, position: u32) -> Answer {
+    if !is_queue_size(num) {
+        return word("no size");
+    }
+    let position = (position & 0xFFFF) as u16;
+    queue.set_fields(&QueueFields {
         num,
         ready: true,
-        desc: DESC,
-        driver: DRIVER,
-        device: DEVICE,
+        desc: 0x8000_0000,
+        driver: 0x8000_4000,
+        device: 0x8000_5000,
         next: position,
         used: position,
+    });
+    nothing()
+}
+
+/// Whether a chain or a fault waits.
+fn waits(queue: &Queue, ram: &Ram) -> Answer {
+    if queue.fields().ready {
+        yes_or_no(queue.waits(ram))
+    } else {
+        word("not ready")
     }
 }
 
-/// A descriptor at its place in the table.
-fn put_descriptor(ram: &mut Ram, k: u8, addr: u64, len: u32, flags: u8, next: u8) {
-    let at = DESC + 16 * u64::from(k);
-    put(ram, at, &addr.to_le_bytes());
-    put(ram, at + 8, &len.to_le_bytes());
-    put(ram, at + 12, &[flags, 0, next, 0]);
+/// Takes the next chain.
+fn next(queue: &mut Queue, ram: &Ram, chain: &mut Chain) -> Answer {
+    if queue.fields().ready {
+        given(queue.next_chain(ram, chain))
+    } else {
+        word("not ready")
+    }
 }
 
-/// The worked chain of two parts, with other flags in its descriptors.
-fn two_parts(alloc: Global, first: u8, second: u8, high: u8) -> Result<Ram, AllocError> {
-    let mut ram = Ram::new(alloc, 1)?;
-    put(
-        &mut ram,
-        DESC,
-        &[0, 0x10, 0, 0x80, 0, 0, 0, 0, 4, 0, 0, 0, first, 0, 1, 0],
-    );
-    put(
-        &mut ram,
-        DESC + 16,
-        &[0, 0x20, 0, high, 0, 0, 0, 0, 8, 0, 0, 0, second, 0, 0, 0],
-    );
-    put(&mut ram, DRIVER, &[0, 0, 1, 0, 0, 0]);
-    Ok(ram)
+/// Returns a chain by its head.
+fn push(queue: &mut Queue, ram: &mut Ram, head: u32, len: u32) -> Answer {
+    if queue.fields().ready {
+        given(queue.push_used(ram, head, len))
+    } else {
+        word("not ready")
+    }
 }
+
+/// What a queue answers.
+fn given(answer: Result<bool, RingFault>) -> Answer {
+    match answer {
+        Ok(answer) => yes_or_no(answer),
+        Err(fault) => broken(fault),
+    }
+}
+
+/// 255 descriptors of one byte each, of which each leads to the next.
+fn line_up(ram: &mut Ram) -> Answer {
+    let mut at = 0x8000_0000u32;
+    for k in 0..255 {
+        memory(ram, "descriptor", &[at, 0x8000_6000, 1, 1, k + 1, 0]);
+        at = at.wrapping_add(16);
+    }
+    nothing()
+}
+
+/// Takes the next chain, and reads eight bytes of it: `read` answers the bytes, `count` how many
+/// there were.
+fn read_next(queue: &mut Queue, ram: &Ram, name: &str, from: u64) -> Answer {
+    let mut chain = Chain::new();
+    if !queue.fields().ready || queue.next_chain(ram, &mut chain) != Ok(true) {
+        return word("none");
+    }
+    let mut into = [0; 8];
+    let count = chain.read(ram, from, &mut into);
+    if name == "count" {
+        number(count as u64)
+    } else {
+        number(u64::from_be_bytes(into))
+    }
+}
+
+/// Takes the next chain, and writes 7, 8 and 9 into it.
+fn write_next(queue: &mut Queue, ram: &mut Ram, from: u64) -> Answer {
+    let mut chain = Chain::new();
+    if !queue.fields().ready || queue.next_chain(ram, &mut chain) != Ok(true) {
+        return word("none");
+    }
+    chain.write(ram, from, &[7, 8, 9]);
+    nothing()
+}
+
+/// Writes 5 over bytes of a part.
+fn fill(chain: &Chain, ram: &mut Ram, n: &[u32; 6]) -> Answer {
+    match chain.part_mut(ram, n[0] as usize, n[1], n[2]) {
+        Some(bytes) => {
+            bytes.fill(5);
+            nothing()
+        }
+        None => word("none"),
+    }
+}
+
+/// The address of a part, its length, and whether the device writes it.
+fn part_of(chain: &Chain, name: &str, k: usize) -> Answer {
+    if k >= chain.len() {
+        return word("none");
+    }
+    let part = chain.at(k);
+    match name {
+        "addr" => number(part.addr),
+        "len" => number(u64::from(part.len)),
+        _ => yes_or_no(chain.writable(k) && part.writable),
+    }
+}
+
+/// What the chain is as a whole.
+fn about(chain: &Chain, name: &str) -> Answer {
+    match name {
+        "head" => number(u64::from(chain.head())),
+        "parts" => number(chain.len() as u64),
+        "empty" => yes_or_no(chain.is_empty()),
+        "readable_len" => number(chain.readable_len()),
+        _ => number(chain.writable_len()),
+    }
+}
+
+/// A part of 4 bytes to be read and one of 8 to be written.
+const TWO_PARTS: &str = "\
+descriptor 80000000 80001000 4 1 1
+descriptor 80000010 80002000 8 2
+sw 80004000 00010000
+sh 80004004 0
+set 2 0
+";
+
+/// The chain is taken, read, written and returned. `read`, `count` and `write` take it again.
+const TAKEN: &str = "\
+sm 80001000 61626364
+empty : yes
+waits : yes
+next : yes
+head : 0
+parts : 2
+addr 0 : 80001000
+len 0 : 4
+writable 0 : no
+addr 1 : 80002000
+len 1 : 8
+writable 1 : yes
+part 0 : 61626364
+readable_len : 4
+writable_len : 8
+set 2 0
+count 1 : 3
+set 2 0
+read 1 : 6263640000000000
+set 2 0
+write 6
+lw 80002004 : 08070000
+lb 80002008 : 0
+fill 1 0 2
+fill 1 7 2 : none
+lw 80002000 : 0505
+push 0 8 : yes
+lw 80005000 : 00010000
+lw 80005008 : 8
+waits : no
+next : no
+used : 1
+";
+
+/// A part to be read after one to be written.
+const READABLE_AFTER_WRITABLE: &str = "\
+descriptor 80000000 80001000 4 3 1
+descriptor 80000010 80002000 8 0
+next : order
+position : 0
+";
+
+/// A part that isn't in memory.
+const OUTSIDE: &str = "\
+descriptor 80000010 90002000 8 2
+next : outside
+position : 0
+";
+
+/// A descriptor that is the next of itself.
+const LOOP: &str = "\
+descriptor 80000000 80001000 1 1
+sw 80004000 00010000
+set 8 0
+next : loop
+empty : yes
+";
+
+/// 256 descriptors, of which the last leads nowhere, and then to the first.
+const MOST_PARTS: &str = "\
+line_up
+sw 80004000 00010000
+set 100 0
+descriptor 80000FF0 80006000 1 0
+next : yes
+parts : 100
+descriptor 80000FF0 80006000 1 1
+set 100 0
+next : loop
+";
+
+/// The position after 65535 is 0, and the place is the position modulo the number. The driver wants
+/// no interrupt (VIRTQ_AVAIL_F_NO_INTERRUPT, VIRTIO 1.1, 2.6.7).
+const LAST_POSITION: &str = "\
+descriptor 80000030 80006000 1 0
+sw 80004000 1
+sh 8000400A 3
+set 4 FFFF
+next : yes
+head : 3
+push 3 0 : no
+position : 0
+used : 0
+lh 80005002 : 0
+lw 8000501C : 3
+";
 
 #[test]
 fn a_chain_of_two_parts_is_taken_read_written_and_returned(rt: HostRuntime) -> Result<(), Fail> {
-    let mut ram = two_parts(rt.alloc(), 1, 2, 0x80)?;
-    put(&mut ram, 0x8000_1000, b"abcd");
-    let mut queue = Queue::new();
-    queue.set_fields(&fields(2, 0));
-    let mut chain = Chain::new();
-    assert!(rt; chain.is_empty());
-    assert!(rt; queue.waits(&ram));
-    assert_eq!(rt; queue.next_chain(&ram, &mut chain), Ok(true));
-    assert_eq!(rt; chain.head(), 0);
-    assert_eq!(rt; chain.len(), 2);
-    assert_eq!(rt;
-        chain.at(0),
-        Part {
-            addr: 0x8000_1000,
-            len: 4,
-            writable: false
-        }
-    );
-    assert_eq!(rt;
-        chain.at(1),
-        Part {
-            addr: 0x8000_2000,
-            len: 8,
-            writable: true
-        }
-    );
-    assert!(rt; !chain.writable(0));
-    let first = chain.part(&ram, 0).ok_or("in memory")?;
-    assert_eq!(rt; first, b"abcd".as_slice());
-
-    assert_eq!(rt; chain.readable_len(), 4);
-    assert_eq!(rt; chain.writable_len(), 8);
-    let mut into = [0; 8];
-    assert_eq!(rt; chain.read(&ram, 1, &mut into), 3);
-    assert_eq!(rt; into, [b'b', b'c', b'd', 0, 0, 0, 0, 0]);
-    chain.write(&mut ram, 6, &[7, 8, 9]);
-    assert_eq!(rt; ram.load(0x8000_2004, 4), Some(0x0807_0000));
-    assert_eq!(rt; ram.load(0x8000_2008, 1), Some(0));
-    if let Some(bytes) = chain.part_mut(&mut ram, 1, 0, 2) {
-        bytes.fill(5);
-    }
-    assert!(rt; chain.part_mut(&mut ram, 1, 7, 2).is_none());
-    assert_eq!(rt; ram.load(0x8000_2000, 4), Some(0x0505));
-
-    assert_eq!(rt; queue.push_used(&mut ram, 0, 8), Ok(true));
-    assert_eq!(rt; ram.load(0x8000_5000, 4), Some(0x0001_0000));
-    assert_eq!(rt; ram.load(0x8000_5008, 4), Some(8));
-    assert!(rt; !queue.waits(&ram));
-    assert_eq!(rt; queue.next_chain(&ram, &mut chain), Ok(false));
-    assert_eq!(rt; queue.fields().used, 1);
+    play(&rt, &mut Ring::new(rt.alloc())?, &[TWO_PARTS, TAKEN]);
     Ok(())
 }
 
@@ -121,67 +282,26 @@ fn a_chain_of_two_parts_is_taken_read_written_and_returned(rt: HostRuntime) -> R
 fn a_readable_part_after_a_writable_one_and_a_part_outside_are_faults(
     rt: HostRuntime,
 ) -> Result<(), Fail> {
-    for (first, second, high, fault) in [
-        (3, 0, 0x80, RingFault::Order),
-        (1, 2, 0x90, RingFault::Outside),
-    ] {
-        let ram = two_parts(rt.alloc(), first, second, high)?;
-        let mut queue = Queue::new();
-        queue.set_fields(&fields(2, 0));
-        let mut chain = Chain::new();
-        assert_eq!(rt; queue.next_chain(&ram, &mut chain), Err(fault));
-        assert_eq!(rt; queue.fields().next, 0);
-    }
+    let mut ring = Ring::new(rt.alloc())?;
+    play(&rt, &mut ring, &[TWO_PARTS, READABLE_AFTER_WRITABLE]);
+    play(&rt, &mut ring, &[TWO_PARTS, OUTSIDE]);
     Ok(())
 }
 
 #[test]
 fn a_descriptor_that_leads_to_itself_is_a_loop(rt: HostRuntime) -> Result<(), Fail> {
-    let mut ram = Ram::new(rt.alloc(), 1)?;
-    put_descriptor(&mut ram, 0, 0x8000_1000, 1, 1, 0);
-    put(&mut ram, DRIVER, &[0, 0, 1, 0]);
-    let mut queue = Queue::new();
-    queue.set_fields(&fields(8, 0));
-    let mut chain = Chain::new();
-    assert_eq!(rt; queue.next_chain(&ram, &mut chain), Err(RingFault::Loop));
-    assert!(rt; chain.is_empty());
+    play(&rt, &mut Ring::new(rt.alloc())?, &[LOOP]);
     Ok(())
 }
 
 #[test]
 fn a_chain_has_at_most_256_parts(rt: HostRuntime) -> Result<(), Fail> {
-    let mut ram = Ram::new(rt.alloc(), 1)?;
-    for k in 0..255u8 {
-        put_descriptor(&mut ram, k, 0x8000_6000, 1, 1, k + 1);
-    }
-    put(&mut ram, DRIVER, &[0, 0, 1, 0]);
-    let mut queue = Queue::new();
-    queue.set_fields(&fields(256, 0));
-    let mut chain = Chain::new();
-    put_descriptor(&mut ram, 255, 0x8000_6000, 1, 0, 0);
-    assert_eq!(rt; queue.next_chain(&ram, &mut chain), Ok(true));
-    assert_eq!(rt; chain.len(), 256);
-    put_descriptor(&mut ram, 255, 0x8000_6000, 1, 1, 0);
-    queue.set_fields(&fields(256, 0));
-    assert_eq!(rt; queue.next_chain(&ram, &mut chain), Err(RingFault::Loop));
+    play(&rt, &mut Ring::new(rt.alloc())?, &[MOST_PARTS]);
     Ok(())
 }
 
 #[test]
 fn positions_go_on_from_65535_to_0(rt: HostRuntime) -> Result<(), Fail> {
-    let mut ram = Ram::new(rt.alloc(), 1)?;
-    put_descriptor(&mut ram, 3, 0x8000_6000, 1, 0, 0);
-    put(&mut ram, DRIVER, &[1, 0, 0, 0]);
-    put(&mut ram, DRIVER + 4 + 2 * 3, &[3, 0]);
-    let mut queue = Queue::new();
-    queue.set_fields(&fields(4, 65535));
-    let mut chain = Chain::new();
-    assert_eq!(rt; queue.next_chain(&ram, &mut chain), Ok(true));
-    assert_eq!(rt; chain.head(), 3);
-    assert_eq!(rt; queue.push_used(&mut ram, 3, 0), Ok(false));
-    assert_eq!(rt; queue.fields().next, 0);
-    assert_eq!(rt; queue.fields().used, 0);
-    assert_eq!(rt; ram.load(0x8000_5002, 2), Some(0));
-    assert_eq!(rt; ram.load(0x8000_501C, 4), Some(3));
+    play(&rt, &mut Ring::new(rt.alloc())?, &[LAST_POSITION]);
     Ok(())
 }
