@@ -1,0 +1,6 @@
+mod BootLemmas
+mod BytesLemmas
+mod FitLemmas
+mod RegularLemmas
+mod SizeLemmas
+mod TurnLemmas
