@@ -1,8 +1,7 @@
 //! Worked statements, with the words that llvm-mc gives them, and faults.
 
 use rv_asm::{AsmFault, Why, assemble, disassemble};
-use std::process::Abort;
-use std::test::Fail;
+use std::alloc::Global;
 
 // One statement of each row at least, with the words that llvm-mc gives them.
 const STATEMENTS: [(&str, u32); 69] = [
@@ -121,64 +120,106 @@ const FAULTS: [(&str, u64, Why); 24] = [
     ("b: jal x0, b\nbeq x0, x0, c\n", 2, Why::Label),
 ];
 
-fn bytes_of(rt: &impl AllocGlobal, words: &[u32]) -> Result<Vec<u8>, Fail> {
-    let mut bytes = Vec::new(rt.alloc());
-    for word in words {
-        bytes.extend_from_slice(&word.to_le_bytes())?;
-    }
-    Ok(bytes)
+/// What is tested. No call has a clause, so that what the contracts say stands in no goal of the
+/// tests.
+trait Assembler {
+    fn assemble(&self, text: &str) -> Result<Vec<u8>, AsmFault>;
+
+    fn disassemble(&self, word: u32) -> Option<String>;
 }
 
-fn assembles<R: Abort + AllocGlobal>(rt: &R, text: &str, words: &[u32]) -> Result<(), Fail> {
-    let bytes = assemble(rt.alloc(), text)?;
-    let wanted = bytes_of(rt, words)?;
-    assert_eq!(rt; bytes.as_slice(), wanted.as_slice(), "{text}");
-    Ok(())
+/// The assembler, with what gives it memory.
+#[derive(Drop)]
+struct Statements(Global);
+
+impl Assembler for Statements {
+    fn assemble(&self, text: &str) -> Result<Vec<u8>, AsmFault> {
+        assemble(self.0, text)
+    }
+
+    fn disassemble(&self, word: u32) -> Option<String> {
+        let mut into = String::new(self.0);
+        disassemble(word, &mut into).ok()?;
+        Some(into)
+    }
+}
+
+/// Whether bytes are those of words, little-endian.
+fn are_words(bytes: &[u8], words: &[u32]) -> bool {
+    let mut wanted = words.iter();
+    for four in bytes.chunks(4) {
+        match wanted.next() {
+            Some(word) if word.to_le_bytes().as_slice() == four => {}
+            _ => return false,
+        }
+    }
+    wanted.next().is_none()
+}
+
+/// Whether a text is assembled to words.
+fn assembles<A: Assembler>(tested: &A, text: &str, words: &[u32]) -> bool {
+    match tested.assemble(text) {
+        Ok(bytes) => are_words(bytes.as_slice(), words),
+        Err(_) => false,
+    }
+}
+
+/// Whether a word is disassembled to a text, and that is assembled to the word.
+fn is_text_of<A: Assembler>(tested: &A, text: &str, word: u32) -> bool {
+    match tested.disassemble(word) {
+        Some(found) => found.as_str() == text && assembles(tested, text, &[word]),
+        None => false,
+    }
+}
+
+/// Whether the first fault of a text is this one.
+fn is_fault_of<A: Assembler>(tested: &A, text: &str, line: u64, why: Why) -> bool {
+    match tested.assemble(text) {
+        Ok(_) => false,
+        Err(fault) => fault == AsmFault::Line { line, why },
+    }
 }
 
 #[test]
-fn each_row_has_its_word(rt: HostRuntime) -> Result<(), Fail> {
+fn each_row_has_its_word(rt: HostRuntime) {
     for (text, word) in STATEMENTS {
-        assembles(&rt, text, &[word])?;
+        assert!(rt; assembles(&Statements(rt.alloc()), text, &[word]), "{text}");
     }
-    Ok(())
 }
 
-#[test]
-fn labels_stand_for_their_places(rt: HostRuntime) -> Result<(), Fail> {
-    assembles(
-        &rt,
-        "addi x1, x0, -1\nj: jal x0, j",
-        &[0xFFF00093, 0x0000006F],
-    )?;
-    assembles(
-        &rt,
+// Programs with labels, and their words.
+const PROGRAMS: [(&str, &[u32]); 4] = [
+    ("addi x1, x0, -1\nj: jal x0, j", &[0xFFF00093, 0x0000006F]),
+    (
         "start:\n\nbeq a0, x0, end\nli a1, start\njal x1, start\nli x2, -1\nend: .word -0\n",
         &[
             0x00050C63, 0x800005B7, 0x00058593, 0xFF5FF0EF, 0x00000137, 0xFFF10113, 0x00000000,
         ],
-    )?;
-    assembles(&rt, "li a0, 0x12345FFF", &[0x12346537, 0xFFF50513])?;
-    assembles(&rt, "", &[])
+    ),
+    ("li a0, 0x12345FFF", &[0x12346537, 0xFFF50513]),
+    ("", &[]),
+];
+
+#[test]
+fn labels_stand_for_their_places(rt: HostRuntime) {
+    for (text, words) in PROGRAMS {
+        assert!(rt; assembles(&Statements(rt.alloc()), text, words), "{text}");
+    }
 }
 
 #[test]
-fn words_have_their_texts(rt: HostRuntime) -> Result<(), Fail> {
+fn words_have_their_texts(rt: HostRuntime) {
     for (word, text) in TEXTS {
-        let mut into = String::new(rt.alloc());
-        disassemble(word, &mut into)?;
-        assert_eq!(rt; into.as_str(), text);
-        assembles(&rt, text, &[word])?;
+        assert!(rt; is_text_of(&Statements(rt.alloc()), text, word), "{text}");
     }
-    Ok(())
 }
 
 #[test]
 fn the_first_fault_is_named(rt: HostRuntime) {
     for (text, line, why) in FAULTS {
-        match assemble(rt.alloc(), text) {
-            Ok(_) => assert!(rt; false, "{text}"),
-            Err(fault) => assert_eq!(rt; fault, AsmFault::Line { line, why }, "{text}"),
-        }
+        assert!(rt;
+            is_fault_of(&Statements(rt.alloc()), text, line, why),
+            "{text}"
+        );
     }
 }

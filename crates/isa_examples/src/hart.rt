@@ -8,7 +8,7 @@ use colo_base::NoMemory;
 use rv_core::{Bus, Hart, HartFields, Outcome};
 use rv_isa::decode;
 use rv_traps::Csrs;
-use std::test::Fail;
+use std::process::Abort;
 
 /// Where each hart starts.
 const START: u32 = 0x8000_0040;
@@ -206,160 +206,231 @@ fn numbers(line: &str) -> [u32; 6] {
     numbers
 }
 
-/// A hart at the start with these values in x1 and x2.
-fn hart_with(first: u32, second: u32) -> Hart {
-    let mut hart = Hart::new(START);
-    let mut fields = hart.fields();
-    fields.x[0] = first;
-    fields.x[1] = second;
-    hart.set_fields(&fields);
-    hart
+/// What is tested. No call has a clause, so that what the contracts say stands in no goal of the
+/// tests.
+trait Core: Drop {
+    /// A hart at the start with these values in x1 and x2, and this word in memory.
+    fn start(first: u32, second: u32, memory: u32) -> Self;
+
+    /// What one word does. `None` is that there is no such row.
+    fn execute(&mut self, word: u32) -> Option<Outcome>;
+
+    /// Enters the interrupt that is due, and answers its cause.
+    fn enter_pending(&mut self) -> Option<u32>;
+
+    /// Goes on at the start.
+    fn enter_start(&mut self);
+
+    /// Writes a CSR.
+    fn write(&mut self, number: u32, value: u32) -> bool;
+
+    /// The timer and the devices ask for interrupts.
+    fn raise_lines(&mut self);
+
+    fn fields(&self) -> HartFields;
+
+    fn zero(&self) -> u32;
+
+    fn memory(&self) -> u32;
+
+    fn csr(&self, number: u32) -> Option<u32>;
 }
 
-/// What one word does.
-fn outcome_of(
-    word: u32,
-    hart: &mut Hart,
-    csrs: &mut Csrs,
-    bus: &mut OneWord,
-) -> Result<Outcome, Fail> {
-    let instr = decode(word).ok_or("no such row")?;
-    Ok(hart.execute(&instr, csrs, bus)?)
+/// A hart, its CSRs and its bus.
+#[derive(Drop)]
+struct Board {
+    hart: Hart,
+    csrs: Csrs,
+    bus: OneWord,
+}
+
+impl Core for Board {
+    fn start(first: u32, second: u32, memory: u32) -> Board {
+        let mut hart = Hart::new(START);
+        let mut fields = hart.fields();
+        fields.x[0] = first;
+        fields.x[1] = second;
+        hart.set_fields(&fields);
+        Board {
+            hart,
+            csrs: Csrs::new(),
+            bus: OneWord { value: memory },
+        }
+    }
+
+    fn execute(&mut self, word: u32) -> Option<Outcome> {
+        let instr = decode(word)?;
+        self.hart
+            .execute(&instr, &mut self.csrs, &mut self.bus)
+            .ok()
+    }
+
+    fn enter_pending(&mut self) -> Option<u32> {
+        let cause = self.csrs.pending()?;
+        let pc = self.csrs.enter(cause, 0, self.hart.pc());
+        self.hart.enter(pc);
+        Some(cause)
+    }
+
+    fn enter_start(&mut self) {
+        self.hart.enter(START);
+    }
+
+    fn write(&mut self, number: u32, value: u32) -> bool {
+        self.csrs.write(number, value)
+    }
+
+    fn raise_lines(&mut self) {
+        self.csrs.set_mtimecmp(0);
+        self.csrs.external(true);
+    }
+
+    fn fields(&self) -> HartFields {
+        self.hart.fields()
+    }
+
+    fn zero(&self) -> u32 {
+        self.hart.reg(0)
+    }
+
+    fn memory(&self) -> u32 {
+        self.bus.value
+    }
+
+    fn csr(&self, number: u32) -> Option<u32> {
+        self.csrs.read(number)
+    }
 }
 
 /// Whether a word of `ROWS` leaves what its line says.
-fn is_row(line: &str) -> Result<bool, Fail> {
+fn is_row<C: Core>(line: &str) -> bool {
     let [word, first, second, third, pc, memory] = numbers(line);
-    let mut hart = hart_with(first, second);
-    let mut bus = OneWord { value: MEMORY };
-    let outcome = outcome_of(word, &mut hart, &mut Csrs::new(), &mut bus)?;
-    let left = (hart.reg(0), hart.reg(3), hart.pc(), bus.value);
-    Ok(outcome == Outcome::Next && left == (0, third, pc, memory))
+    let mut core = C::start(first, second, MEMORY);
+    let outcome = core.execute(word);
+    let fields = core.fields();
+    let left = (core.zero(), fields.x[2], fields.pc, core.memory());
+    outcome == Some(Outcome::Next) && left == (0, third, pc, memory)
 }
 
 /// Whether a word of `TRAPS` gives its trap and changes nothing.
-fn is_trap(line: &str) -> Result<bool, Fail> {
+fn is_trap<C: Core>(line: &str) -> bool {
     let [word, first, second, cause, value, _] = numbers(line);
-    let mut hart = hart_with(first, second);
-    let before = hart.fields();
-    let mut bus = OneWord { value: MEMORY };
-    let outcome = outcome_of(word, &mut hart, &mut Csrs::new(), &mut bus)?;
-    let same = hart.fields() == before && bus.value == MEMORY;
-    Ok(same && outcome == Outcome::Trap { cause, value })
+    let mut core = C::start(first, second, MEMORY);
+    let before = core.fields();
+    let outcome = core.execute(word);
+    let same = core.fields() == before && core.memory() == MEMORY;
+    same && outcome == Some(Outcome::Trap { cause, value })
 }
 
 /// Whether a word of `RESERVATIONS` leaves what its line says.
-fn is_reserved(line: &str, hart: &mut Hart, bus: &mut OneWord) -> Result<bool, Fail> {
+fn is_reserved<C: Core>(line: &str, core: &mut C) -> bool {
     let [word, third, reserved, ..] = numbers(line);
-    outcome_of(word, hart, &mut Csrs::new(), bus)?;
-    Ok(hart.reg(3) == third && hart.fields().reserved == (reserved == 1))
+    let outcome = core.execute(word);
+    let left = core.fields();
+    outcome.is_some() && left.x[2] == third && left.reserved == (reserved == 1)
 }
 
 /// Whether a word of `CHANGES` leaves what its line says.
-fn is_change(line: &str) -> Result<bool, Fail> {
+fn is_change<C: Core>(line: &str) -> bool {
     let [word, third, scratch, ..] = numbers(line);
-    let mut hart = hart_with(0x0FF0, 0);
-    let mut csrs = Csrs::new();
-    let written = csrs.write(0x340, 0xFF00);
-    outcome_of(word, &mut hart, &mut csrs, &mut OneWord { value: 0 })?;
-    Ok(written && hart.reg(3) == third && csrs.read(0x340) == Some(scratch))
+    let mut core = C::start(0x0FF0, 0, 0);
+    let written = core.write(0x340, 0xFF00);
+    let outcome = core.execute(word);
+    let left = core.fields().x[2] == third && core.csr(0x340) == Some(scratch);
+    written && outcome.is_some() && left
 }
 
 /// Whether a word is legal as the line says: an illegal one traps with cause 2 and the word.
-fn is_legal(word: u32, legal: bool) -> Result<bool, Fail> {
-    let mut bus = OneWord { value: 0 };
-    let outcome = outcome_of(word, &mut hart_with(0, 0), &mut Csrs::new(), &mut bus)?;
+fn is_legal<C: Core>(word: u32, legal: bool) -> bool {
     let trap = Outcome::Trap {
         cause: 2,
         value: word,
     };
-    Ok(outcome == if legal { Outcome::Next } else { trap })
+    C::start(0, 0, 0).execute(word) == Some(if legal { Outcome::Next } else { trap })
 }
 
-#[test]
-fn rows_at_their_edges(rt: HostRuntime) -> Result<(), Fail> {
-    for line in ROWS.lines() {
-        assert!(rt; is_row(line)?, "{line}");
-    }
-    Ok(())
+/// Whether each CSR is read and written where it is held, and refused where it isn't.
+fn is_csr<C: Core>(number: u32) -> bool {
+    let held = matches!(
+        number,
+        0x300 | 0x301 | 0x304 | 0x305 | 0x340..=0x344 | 0xB00 | 0xB02 | 0xB80 | 0xB82
+    );
+    let read_only = matches!(number, 0xF11..=0xF14);
+    // csrrs x3, number, x0 and csrrw x0, number, x0
+    is_legal::<C>(number << 20 | 0x21F3, held || read_only)
+        && is_legal::<C>(number << 20 | 0x1073, held)
 }
 
-#[test]
-fn traps_with_cause_and_value(rt: HostRuntime) -> Result<(), Fail> {
-    for line in TRAPS.lines() {
-        assert!(rt; is_trap(line)?, "{line}");
-    }
-    Ok(())
-}
-
-#[test]
-fn reservations_and_what_clears_them(rt: HostRuntime) -> Result<(), Fail> {
-    let mut hart = hart_with(PLACE, 9);
-    let mut bus = OneWord { value: MEMORY };
+/// Whether the words of `RESERVATIONS` leave what their lines say, in order.
+fn check_reservations<R: Abort, C: Core>(rt: &R, core: &mut C) {
     for line in RESERVATIONS.lines() {
-        assert!(rt; is_reserved(line, &mut hart, &mut bus)?, "{line}");
+        assert!(rt; is_reserved(line, core), "{line}");
     }
-    hart.enter(START);
-    let left = hart.fields();
+    core.enter_start();
+    let left = core.fields();
     assert!(rt; !left.reserved && left.address == PLACE);
-    assert!(rt; is_reserved("1820A1AF 00000001 0", &mut hart, &mut bus)?);
-    Ok(())
+    assert!(rt; is_reserved("1820A1AF 00000001 0", core));
 }
 
-#[test]
-fn each_csr_by_number(rt: HostRuntime) -> Result<(), Fail> {
-    for number in 0..4096u32 {
-        let held = matches!(
-            number,
-            0x300 | 0x301 | 0x304 | 0x305 | 0x340..=0x344 | 0xB00 | 0xB02 | 0xB80 | 0xB82
-        );
-        let read_only = matches!(number, 0xF11..=0xF14);
-        // csrrs x3, number, x0 and csrrw x0, number, x0
-        assert!(rt;
-            is_legal(number << 20 | 0x21F3, held || read_only)?,
-            "{number:03x}"
-        );
-        assert!(rt; is_legal(number << 20 | 0x1073, held)?, "{number:03x}");
-    }
-    Ok(())
+fn check_return<R: Abort, C: Core>(rt: &R, core: &mut C) {
+    assert!(rt; core.write(0x341, 0x124));
+    assert!(rt; core.execute(0x3020_0073).is_some());
+    assert_eq!(rt; core.fields().pc, 0x124);
+    assert_eq!(rt; core.csr(0x300), Some(0x1880));
 }
 
-#[test]
-fn csr_changes(rt: HostRuntime) -> Result<(), Fail> {
-    for line in CHANGES.lines() {
-        assert!(rt; is_change(line)?, "{line}");
-    }
-    Ok(())
-}
-
-#[test]
-fn mret_returns(rt: HostRuntime) -> Result<(), Fail> {
-    let mut hart = hart_with(0, 0);
-    let mut csrs = Csrs::new();
-    assert!(rt; csrs.write(0x341, 0x124));
-    outcome_of(0x3020_0073, &mut hart, &mut csrs, &mut OneWord { value: 0 })?;
-    assert_eq!(rt; hart.pc(), 0x124);
-    assert_eq!(rt; csrs.read(0x300), Some(0x1880));
-    Ok(())
-}
-
-#[test]
-fn interrupt_after_it_is_enabled(rt: HostRuntime) -> Result<(), Fail> {
-    let mut hart = hart_with(0, 0);
-    let mut csrs = Csrs::new();
+fn check_interrupt<R: Abort, C: Core>(rt: &R, core: &mut C) {
     // mie, and mtvec, which is vectored
-    assert!(rt; csrs.write(0x304, 0x880) && csrs.write(0x305, 0x8000_0101));
-    csrs.set_mtimecmp(0);
-    csrs.external(true);
-    assert_eq!(rt; csrs.pending(), None);
+    assert!(rt; core.write(0x304, 0x880) && core.write(0x305, 0x8000_0101));
+    core.raise_lines();
+    assert_eq!(rt; core.enter_pending(), None);
     // csrrsi x0, mstatus, 8
-    let outcome = outcome_of(0x3004_6073, &mut hart, &mut csrs, &mut OneWord { value: 0 })?;
-    assert_eq!(rt; outcome, Outcome::Next);
-    let cause = csrs.pending().ok_or("none is due")?;
-    let pc = csrs.enter(cause, 0, hart.pc());
-    hart.enter(pc);
-    assert_eq!(rt; csrs.read(0x342), Some(0x8000_000B));
-    assert_eq!(rt; csrs.read(0x341), Some(0x8000_0044));
-    assert_eq!(rt; hart.pc(), 0x8000_012C);
-    Ok(())
+    assert_eq!(rt; core.execute(0x3004_6073), Some(Outcome::Next));
+    assert!(rt; core.enter_pending().is_some());
+    assert_eq!(rt; core.csr(0x342), Some(0x8000_000B));
+    assert_eq!(rt; core.csr(0x341), Some(0x8000_0044));
+    assert_eq!(rt; core.fields().pc, 0x8000_012C);
+}
+
+#[test]
+fn rows_at_their_edges(rt: HostRuntime) {
+    for line in ROWS.lines() {
+        assert!(rt; is_row::<Board>(line), "{line}");
+    }
+}
+
+#[test]
+fn traps_with_cause_and_value(rt: HostRuntime) {
+    for line in TRAPS.lines() {
+        assert!(rt; is_trap::<Board>(line), "{line}");
+    }
+}
+
+#[test]
+fn reservations_and_what_clears_them(rt: HostRuntime) {
+    check_reservations(&rt, &mut Board::start(PLACE, 9, MEMORY));
+}
+
+#[test]
+fn each_csr_by_number(rt: HostRuntime) {
+    for number in 0..4096u32 {
+        assert!(rt; is_csr::<Board>(number), "{number:03x}");
+    }
+}
+
+#[test]
+fn csr_changes(rt: HostRuntime) {
+    for line in CHANGES.lines() {
+        assert!(rt; is_change::<Board>(line), "{line}");
+    }
+}
+
+#[test]
+fn mret_returns(rt: HostRuntime) {
+    check_return(&rt, &mut Board::start(0, 0, 0));
+}
+
+#[test]
+fn interrupt_after_it_is_enabled(rt: HostRuntime) {
+    check_interrupt(&rt, &mut Board::start(0, 0, 0));
 }

@@ -13,3 +13,5 @@ mod hart;
 mod instructions;
 #[cfg(test)]
 mod registers;
+#[cfg(test)]
+mod scene;
