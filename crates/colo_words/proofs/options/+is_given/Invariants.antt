@@ -1,0 +1,6 @@
+-- The words that are left.
+use Rattle.std.proofs.Common.{length}
+use Rattle.colo_words.proofs.options.+is_given.Given as goal
+
+abbrev pub decreases-is_given : goal.decreases-is_given
+decreases-is_given l = length l.words.now
