@@ -14,7 +14,8 @@ use Rattle.inet_frame.specs.declared.tuple.Tuple.{Tuple}
 use Rattle.tcp_track.specs.LineFields.{LineFields}
 use Rattle.tcp_track.specs.Lines.{order, order_after, sent_of}
 use Rattle.tcp_track.specs.Segments.{is_refusal, may_open, same_tuple}
-use Rattle.tcp_track.specs.Tracking.{entry_of, line_at, took_of}
+use Rattle.tcp_track.specs.Tracking.{entry_of, line_at, no_entry, took_of}
+use Rattle.tcp_track.specs.declared.openings.Opening.{Opening}
 use Rattle.tcp_track.specs.declared.answers.Took.{Took}
 use Rattle.tcp_track.specs.declared.answers.What.{What}
 use Rattle.tcp_track.specs.declared.answers.What.TheVariants.{Ignored, Opened, Restarted, Symbols, Reset, Refused}
@@ -24,92 +25,52 @@ use Rattle.tcp_track.proofs.TupleLemmas.{is_some-lookup, same_tuple-eq}
 use Rattle.settle_rules.specs.Matching.{BothLines}
 use Rattle.settle_rules.specs.OwnFrames.{progress_with}
 use Rattle.settle_rules.specs.Progress.{AgeKey, Progress, ProgressTable, clear_ages, longest_wait, no_progress, older}
-use Rattle.settle_rules.specs.Settle.{Settlement, new_edge, same_age_key, settle_one}
-use Rattle.settle_table.specs.Kept.{KeptScene, add_tuple, both_kept, is_restarted, no_release, settle_found, settle_kept, settle_kept_tuple, settle_line, tuples_of}
+use Rattle.settle_rules.specs.Matching.{client_or_zero}
+use Rattle.settle_rules.specs.Release.{Released, release_refusal}
+use Rattle.settle_rules.specs.Settle.{Settlement, new_edge, rest_one, same_age_key, settle_one, settle_or_rest, shown_after}
+use Rattle.line_settle.specs.Parts.{bare_goes, plain_out, refusal_goes, symbols_out}
+use Rattle.line_settle.proofs.ShownLemmas.{shown_after-append}
+use Rattle.settle_table.specs.Kept.{KeptScene, add_tuple, both_kept, is_restarted, no_release, settle_found, settle_kept, settle_kept_tuple, settle_line, line_settled, tuples_of}
 use Rattle.settle_table.specs.Table.{progress_at, set_progress}
 use Rattle.settle_table.proofs.TableLemmas.{progress_at-set_other, progress_at-set_same}
 use Rattle.out_compare.specs.Comparing.{Comparing, nothing_compared, scene_of, settlement_of, take_own, take_heard, learn, settle, capture, acknowledge}
 use Rattle.out_compare.specs.Noting.{is_noted, note_progress, opening_made}
 use Rattle.compare_laws.specs.Ages.{Sight, edge_after, edge_at_end, edge_from, edge_settled, sight_of, sights_after, sights_at_end, sights_from, sights_with, turns_in_a_row, turns_waited}
-use Rattle.compare_laws.specs.Calls.{CompareCall, sends, hears, learns, settles, looks, captures, acknowledges, remains, compare_after, comparing_of, own_items}
-use Rattle.compare_laws.specs.Laws.{KeepsAges, KeepsEdges}
-use Rattle.compare_laws.proofs.LineLemmas.{keeps_own_order}
-
--- TUPLES IN TABLE ORDER
-
--- no tuple stands twice
-abbrev IsDistinct : List Tuple → Type 0
-IsDistinct [] = ⊤
-IsDistinct (t ∷ ts) = (list_any (same_tuple t) ts ≡ false) × IsDistinct ts
-
-distinct_push : (ts : List Tuple) (u : Tuple) → list_any (same_tuple u) ts ≡ false → IsDistinct ts →
-    IsDistinct (ts ++ u ∷ [])
-distinct_push [] u h d = (refl, tt)
-distinct_push (t ∷ ts) u h d =
-    let parts = or_parts (same_tuple u t) (list_any (same_tuple u) ts) h in (
-      list_any-append (same_tuple t) ts (u ∷ [])
-          ∙ or_from (list_any (same_tuple t) ts) (same_tuple t u || false) d.0
-          (or_from (same_tuple t u) false (same_tuple-sym t u parts.0) refl),
-      distinct_push ts u parts.1 d.1,
-    )
-
-distinct_after : (ts : List Tuple) (s : TcpFields) → IsDistinct ts → IsDistinct (order_after ts s)
-unfolding order_after
-distinct_after ts s d = by (may_open s || is_refusal s) (list_any (same_tuple (tuple_of s)) ts) refl
-  where
-    by : (m b : Bool) → list_any (same_tuple (tuple_of s)) ts ≡ b →
-        IsDistinct (if m && not b then ts ++ tuple_of s ∷ [] else ts)
-    by true true h = d
-    by true false h = distinct_push ts (tuple_of s) h d
-    by false b h = d
-
-distinct_all : (segments : List TcpFields) (ts : List Tuple) → IsDistinct ts → IsDistinct (fold order_after ts segments)
-distinct_all [] ts d = d
-distinct_all (s ∷ segments) ts d = distinct_all segments (order_after ts s) (distinct_after ts s d)
-
-distinct : (calls : List CompareCall) → IsDistinct (tuples_of (comparing_of calls).mine)
-unfolding order
-distinct calls = subst IsDistinct (sym (keeps_own_order calls)) (distinct_all (sent_of (own_items calls)) [] tt)
+use Rattle.compare_laws.specs.Calls.{CompareCall, sends, hears, learns, settles, looks, captures, acknowledges, remains, compare_after, compare_calls}
+use Rattle.compare_laws.specs.Laws.{KeepsAges, KeepsEdges, KeepsProgress, KeepsShown}
+use Rattle.compare_laws.specs.Progressing.{line_released, progress_from, progress_next, progress_settled, shown_from, shown_next}
+use Rattle.compare_laws.specs.Starts.{start_of}
+use Rattle.compare_laws.proofs.StartLemmas.{IsDistinct, distinct_after, distinct_start, young_start}
 
 -- ONE SETTLING
 
-abbrev settled_with : KeptScene → Tuple → Progress → Option LineFields → Progress
-settled_with scene t p None = p
-settled_with scene t p (Some l) = (settle_one (both_kept scene t l) p scene.is_turn scene.tooks).progress
+abbrev settled_with : Bool → KeptScene → Tuple → Progress → Option LineFields → Progress
+settled_with r scene t p None = p
+settled_with r scene t p (Some l) =
+    (settle_or_rest r (both_kept scene t l) p scene.is_turn scene.tooks).progress
 
 -- a connection's progress after a settling
 abbrev settled : KeptScene → Tuple → Progress → Progress
-settled scene t p = if is_restarted scene t then p else settled_with scene t p (line_at scene.mine t)
+settled scene t p = settled_with (is_restarted scene t) scene t p (line_at scene.mine t)
 
 settles_here : (scene : KeptScene) (table : ProgressTable) (t : Tuple) →
     progress_at (settle_kept_tuple scene table t).progress t ≡ settled scene t (progress_at table t)
-unfolding settle_kept_tuple settle_line
-settles_here scene table t = by (is_restarted scene t)
+unfolding settle_kept_tuple settle_line line_settled
+settles_here scene table t = by_line (line_at scene.mine t)
   where
     by_line : (o : Option LineFields) → progress_at (settle_found scene table t o).progress t
-        ≡ settled_with scene t (progress_at table t) o
+        ≡ settled_with (is_restarted scene t) scene t (progress_at table t) o
     by_line None = refl
     by_line (Some l) = progress_at-set_same table t _
-
-    by : (b : Bool) → progress_at (if b then no_release table
-        else settle_found scene table t (line_at scene.mine t)).progress t
-        ≡ (if b then progress_at table t else settled_with scene t (progress_at table t) (line_at scene.mine t))
-    by true = refl
-    by false = by_line (line_at scene.mine t)
 
 settles_elsewhere : (scene : KeptScene) (table : ProgressTable) (t u : Tuple) → same_tuple t u ≡ false →
     progress_at (settle_kept_tuple scene table u).progress t ≡ progress_at table t
 unfolding settle_kept_tuple settle_line
-settles_elsewhere scene table t u other = by (is_restarted scene u)
+settles_elsewhere scene table t u other = by_line (line_at scene.mine u)
   where
     by_line : (o : Option LineFields) → progress_at (settle_found scene table u o).progress t ≡ progress_at table t
     by_line None = refl
     by_line (Some l) = progress_at-set_other table t u _ other
-
-    by : (b : Bool) → progress_at (if b then no_release table
-        else settle_found scene table u (line_at scene.mine u)).progress t ≡ progress_at table t
-    by true = refl
-    by false = by_line (line_at scene.mine u)
 
 not_among : (scene : KeptScene) (so_far : Settlement) (ts : List Tuple) (t : Tuple) →
     list_any (same_tuple t) ts ≡ false →
@@ -145,13 +106,12 @@ among scene so_far (u ∷ ts) t d h =
 settled_without : (scene : KeptScene) (t : Tuple) (p : Progress) →
     list_any (same_tuple t) (tuples_of scene.mine) ≡ false → settled scene t p ≡ p
 settled_without scene t p h =
-    by_line (entry_of scene.mine.entries t) (is_some-lookup t scene.mine.entries ∙ h) (is_restarted scene t)
+    by_line (entry_of scene.mine.entries t) (is_some-lookup t scene.mine.entries ∙ h)
   where
-    by_line : (o : Option Entry) → is_some o ≡ false → (b : Bool) →
-        (if b then p else settled_with scene t p (option_map (λ (e : Entry). e.line) o)) ≡ p
-    by_line None e true = refl
-    by_line None e false = refl
-    by_line (Some x) e b = absurd (true≢false e)
+    by_line : (o : Option Entry) → is_some o ≡ false →
+        settled_with (is_restarted scene t) scene t p (option_map (λ (e : Entry). e.line) o) ≡ p
+    by_line None e = refl
+    by_line (Some x) e = absurd (true≢false e)
 
 at_end : (scene : KeptScene) (table : ProgressTable) (t : Tuple) → IsDistinct (tuples_of scene.mine) →
     progress_at (settle_kept scene table).progress t ≡ settled scene t (progress_at table t)
@@ -232,12 +192,17 @@ unfolding settle_one
 one_edge b p true tooks = refl
 one_edge b p false tooks = refl
 
+rest_edge : (b : BothLines) (p : Progress) (is_turn : Bool) → (rest_one b p is_turn).progress.edge ≡ p.edge
+rest_edge b p true = refl
+rest_edge b p false = refl
+
 edge_then : (scene : KeptScene) (t : Tuple) (p : Progress) → (settled scene t p).edge ≡ edge_at_end scene t p.edge
 edge_then scene t p = by (is_restarted scene t) (line_at scene.mine t)
   where
-    by : (b : Bool) (o : Option LineFields) → (if b then p else settled_with scene t p o).edge
+    by : (b : Bool) (o : Option LineFields) → (settled_with b scene t p o).edge
         ≡ (if b then p.edge else edge_settled scene t p.edge o)
-    by true o = refl
+    by true None = refl
+    by true (Some l) = rest_edge (both_kept scene t l) p scene.is_turn
     by false None = refl
     by false (Some l) = one_edge (both_kept scene t l) p scene.is_turn scene.tooks
 
@@ -257,20 +222,15 @@ edge_next x t captures d = refl
 edge_next x t acknowledges d = ap (λ (p : Progress). p.edge) (cleared x.progress t)
 edge_next x t remains d = refl
 
-edges : (before calls : List CompareCall) (t : Tuple) → (progress_at (comparing_of (before ++ calls)).progress t).edge
-    ≡ edge_from (comparing_of before) t (progress_at (comparing_of before).progress t).edge calls
-edges before [] t = ap (λ (cs : List CompareCall). (progress_at (comparing_of cs).progress t).edge) (append-nil before)
-edges before (call ∷ calls) t =
-    let x = comparing_of before in
-    ap (λ (cs : List CompareCall). (progress_at (comparing_of cs).progress t).edge)
-    (sym (append_assoc before (call ∷ []) calls))
-    ∙ (edges (before ++ call ∷ []) calls t
-    ∙ (ap (λ (y : Comparing). edge_from y t (progress_at y.progress t).edge calls)
-    (fold-append compare_after nothing_compared before (call ∷ []))
-    ∙ ap (λ (n : ℕ). edge_from (compare_after x call) t n calls) (edge_next x t call (distinct before))))
+edges : (calls : List CompareCall) (x : Comparing) (t : Tuple) → IsDistinct (tuples_of x.mine) →
+    (progress_at (compare_calls x calls).progress t).edge ≡ edge_from x t (progress_at x.progress t).edge calls
+edges [] x t d = refl
+edges (call ∷ calls) x t d =
+    edges calls (compare_after x call) t (distinct_after x call d)
+    ∙ ap (λ (n : ℕ). edge_from (compare_after x call) t n calls) (edge_next x t call d)
 
 pub keeps_edges : KeepsEdges
-keeps_edges calls t = edges [] calls t
+keeps_edges start calls t = edges calls (start_of start) t (distinct_start start)
 
 -- AGES
 
@@ -350,21 +310,28 @@ aged_one b p tooks sights h = record {
   key = refl;
 }
 
+aged_rest : (b : BothLines) (p : Progress) (sights : List Sight) → Aged p sights →
+    Aged (rest_one b p true).progress (sight_of b (rest_one b p true).progress ∷ sights)
+aged_rest b p sights h = record {
+  age = aged_sight p sights (sight_of b (rest_one b p true).progress) h;
+  key = refl;
+}
+
 aged_at_end : (scene : KeptScene) (t : Tuple) (p : Progress) (sights : List Sight) → scene.is_turn ≡ true →
     Aged p sights → Aged (settled scene t p) (sights_at_end scene t (settled scene t p) sights)
 aged_at_end scene t p sights turn h = by (is_restarted scene t) (line_at scene.mine t)
   where
-    one : (l : LineFields) (b : Bool) → b ≡ true →
-        Aged (settle_one (both_kept scene t l) p b scene.tooks).progress
-        (sight_of (both_kept scene t l) (settle_one (both_kept scene t l) p b scene.tooks).progress ∷ sights)
-    one l true e = aged_one (both_kept scene t l) p scene.tooks sights h
-    one l false e = absurd (true≢false (sym e))
+    one : (r : Bool) (l : LineFields) (b : Bool) → b ≡ true →
+        Aged (settle_or_rest r (both_kept scene t l) p b scene.tooks).progress
+        (sight_of (both_kept scene t l) (settle_or_rest r (both_kept scene t l) p b scene.tooks).progress ∷ sights)
+    one true l true e = aged_rest (both_kept scene t l) p sights h
+    one false l true e = aged_one (both_kept scene t l) p scene.tooks sights h
+    one r l false e = absurd (true≢false (sym e))
 
-    by : (b : Bool) (o : Option LineFields) → Aged (if b then p else settled_with scene t p o)
-        (if b then sights else sights_with scene t (if b then p else settled_with scene t p o) o sights)
-    by true o = h
-    by false None = h
-    by false (Some l) = one l scene.is_turn turn
+    by : (r : Bool) (o : Option LineFields) → Aged (settled_with r scene t p o)
+        (sights_with scene t (settled_with r scene t p o) o sights)
+    by r None = h
+    by r (Some l) = one r l scene.is_turn turn
 
 aged_same : (p q : Progress) (sights : List Sight) → q.age ≡ p.age → q.age_key ≡ p.age_key → Aged p sights →
     Aged q sights
@@ -377,15 +344,15 @@ aged_else : (scene : KeptScene) (t : Tuple) (p : Progress) (sights : List Sight)
 unfolding settle_one
 aged_else scene t p sights turn h = by (is_restarted scene t) (line_at scene.mine t)
   where
-    one : (l : LineFields) (b : Bool) → b ≡ false →
-        Aged (settle_one (both_kept scene t l) p b scene.tooks).progress sights
-    one l false e = aged_same p (settle_one (both_kept scene t l) p false scene.tooks).progress sights refl refl h
-    one l true e = absurd (true≢false e)
+    one : (r : Bool) (l : LineFields) (b : Bool) → b ≡ false →
+        Aged (settle_or_rest r (both_kept scene t l) p b scene.tooks).progress sights
+    one true l false e = h
+    one false l false e = aged_same p (settle_one (both_kept scene t l) p false scene.tooks).progress sights refl refl h
+    one r l true e = absurd (true≢false e)
 
-    by : (b : Bool) (o : Option LineFields) → Aged (if b then p else settled_with scene t p o) sights
-    by true o = h
-    by false None = h
-    by false (Some l) = one l scene.is_turn turn
+    by : (r : Bool) (o : Option LineFields) → Aged (settled_with r scene t p o) sights
+    by r None = h
+    by r (Some l) = one r l scene.is_turn turn
 
 aged_noted : (b : Bool) (w : What) (p : Progress) (sights : List Sight) → Aged p sights →
     Aged (if b then progress_with w p else p) sights
@@ -425,21 +392,114 @@ aged_next x t sights acknowledges d h =
     subst (λ (p : Progress). Aged p []) (sym (cleared x.progress t)) (record { age = refl; key = tt })
 aged_next x t sights remains d h = h
 
-ages : (before calls : List CompareCall) (t : Tuple) (sights : List Sight) → AgedAt (comparing_of before) t sights →
-    AgedAt (comparing_of (before ++ calls)) t (sights_from (comparing_of before) t sights calls)
-ages before [] t sights h =
-    subst (λ (cs : List CompareCall). AgedAt (comparing_of cs) t sights) (sym (append-nil before)) h
-ages before (call ∷ calls) t sights h =
-    let x = comparing_of before in
-    let more = before ++ call ∷ [] in
-    let after = sights_after x t sights call in
-    let is : comparing_of more ≡ compare_after x call =
-    fold-append compare_after nothing_compared before (call ∷ []) in
-    let one : AgedAt (comparing_of more) t after = subst (λ (y : Comparing). AgedAt y t after) (sym is)
-    (aged_next x t sights call (distinct before) h) in
-    subst (λ (y : Comparing). AgedAt (comparing_of (before ++ call ∷ calls)) t (sights_from y t after calls)) is
-    (subst (λ (cs : List CompareCall). AgedAt (comparing_of cs) t (sights_from (comparing_of more) t after calls))
-    (append_assoc before (call ∷ []) calls) (ages more calls t after one))
+ages : (calls : List CompareCall) (x : Comparing) (t : Tuple) (sights : List Sight) → IsDistinct (tuples_of x.mine) →
+    AgedAt x t sights → AgedAt (compare_calls x calls) t (sights_from x t sights calls)
+ages [] x t sights d h = h
+ages (call ∷ calls) x t sights d h =
+    ages calls (compare_after x call) t (sights_after x t sights call) (distinct_after x call d)
+    (aged_next x t sights call d h)
 
 pub keeps_ages : KeepsAges
-keeps_ages calls t = (ages [] calls t [] (record { age = refl; key = tt })).age
+keeps_ages start calls t =
+    (ages calls (start_of start) t [] (distinct_start start) (record { age = young_start start t; key = tt })).age
+
+-- PROGRESS
+
+progress_is : (x : Comparing) (t : Tuple) (call : CompareCall) → IsDistinct (tuples_of x.mine) →
+    progress_at (compare_after x call).progress t ≡ progress_next x t (progress_at x.progress t) call
+unfolding take_own take_heard learn capture acknowledge line_settled
+progress_is x t (sends frame) d = noted x.progress t (took_of x.mine frame)
+progress_is x t (hears frame) d = refl
+progress_is x t (learns u client number) d = refl
+progress_is x t (settles is_turn) d = settles_to x is_turn t d ∙ by (line_at x.mine t)
+  where
+    by : (o : Option LineFields) → settled_with (is_restarted (scene_of x is_turn) t) (scene_of x is_turn) t
+        (progress_at x.progress t) o ≡ progress_settled (scene_of x is_turn) t (progress_at x.progress t) o
+    by None = refl
+    by (Some l) = refl
+progress_is x t (looks s) d = refl
+progress_is x t captures d = refl
+progress_is x t acknowledges d = cleared x.progress t
+progress_is x t remains d = refl
+
+progressing : (calls : List CompareCall) (x : Comparing) (t : Tuple) → IsDistinct (tuples_of x.mine) →
+    progress_at (compare_calls x calls).progress t ≡ progress_from x t (progress_at x.progress t) calls
+progressing [] x t d = refl
+progressing (call ∷ calls) x t d =
+    progressing calls (compare_after x call) t (distinct_after x call d)
+    ∙ ap (λ (p : Progress). progress_from (compare_after x call) t p calls) (progress_is x t call d)
+
+pub keeps_progress : KeepsProgress
+keeps_progress start calls t = progressing calls (start_of start) t (distinct_start start)
+
+-- THE SYN LAST SHOWN
+
+noted_shown : (b : Bool) (w : What) (p : Progress) → (if b then progress_with w p else p).shown ≡ p.shown
+noted_shown true Ignored p = refl
+noted_shown true (Opened o) p = refl
+noted_shown true (Restarted o) p = refl
+noted_shown true (Symbols from to) p = refl
+noted_shown true Reset p = refl
+noted_shown true (Refused n) p = refl
+noted_shown false w p = refl
+
+refusal_shown : (b : BothLines) (refused : Option ℕ) (goes : Bool) (c : ℕ) (s : Option Opening) →
+    shown_after c s (release_refusal b refused goes) ≡ s
+refusal_shown b None goes c s = refl
+refusal_shown b (Some n) true c s = refl
+refusal_shown b (Some n) false c s = refl
+
+with_refusal : (b : BothLines) (refused : Option ℕ) (goes : Bool) (c : ℕ) (s : Option Opening)
+    (plain : List Released) → shown_after c s plain ≡ shown_after c s (plain ++ release_refusal b refused goes)
+with_refusal b refused goes c s plain = sym (shown_after-append c s plain (release_refusal b refused goes)
+    ∙ refusal_shown b refused goes c (shown_after c s plain))
+
+one_shown : (b : BothLines) (p : Progress) (is_turn : Bool) (tooks : List Took) →
+    (settle_one b p is_turn tooks).progress.shown
+    ≡ shown_after (client_or_zero b.mine.opening) p.shown (settle_one b p is_turn tooks).out
+unfolding settle_one plain_out symbols_out bare_goes
+one_shown b p true tooks =
+    with_refusal b b.mine.refused (refusal_goes b p) (client_or_zero b.mine.opening) p.shown (plain_out b p tooks)
+one_shown b p false tooks =
+    with_refusal b b.mine.refused (refusal_goes b p) (client_or_zero b.mine.opening) p.shown (plain_out b p tooks)
+
+line_shown : (r : Bool) (b : BothLines) (p : Progress) (is_turn : Bool) (tooks : List Took) →
+    (settle_or_rest r b p is_turn tooks).progress.shown
+    ≡ shown_after (client_or_zero b.mine.opening) p.shown (settle_or_rest r b p is_turn tooks).out
+line_shown true b p true tooks = refl
+line_shown true b p false tooks = refl
+line_shown false b p is_turn tooks = one_shown b p is_turn tooks
+
+shown_is : (x : Comparing) (t : Tuple) (call : CompareCall) → IsDistinct (tuples_of x.mine) →
+    (progress_at (compare_after x call).progress t).shown ≡ shown_next x t (progress_at x.progress t).shown call
+unfolding take_own take_heard learn capture acknowledge line_settled both_kept
+shown_is x t (sends frame) d =
+    let took = took_of x.mine frame in
+    ap (λ (p : Progress). p.shown) (noted x.progress t took)
+    ∙ noted_shown (same_tuple t took.tuple) took.what (progress_at x.progress t)
+shown_is x t (hears frame) d = refl
+shown_is x t (learns u client number) d = refl
+shown_is x t (settles is_turn) d =
+    ap (λ (p : Progress). p.shown) (settles_to x is_turn t d) ∙ by (entry_of x.mine.entries t)
+  where
+    by : (o : Option Entry) → (settled_with (is_restarted (scene_of x is_turn) t) (scene_of x is_turn) t
+        (progress_at x.progress t) (option_map (λ (e : Entry). e.line) o)).shown
+        ≡ shown_after (client_or_zero (unwrap_or o no_entry).line.opening) (progress_at x.progress t).shown
+        (line_released (scene_of x is_turn) t (progress_at x.progress t) (option_map (λ (e : Entry). e.line) o))
+    by None = refl
+    by (Some e) = line_shown (is_restarted (scene_of x is_turn) t) (both_kept (scene_of x is_turn) t e.line)
+        (progress_at x.progress t) is_turn x.tooks
+shown_is x t (looks s) d = refl
+shown_is x t captures d = refl
+shown_is x t acknowledges d = ap (λ (p : Progress). p.shown) (cleared x.progress t)
+shown_is x t remains d = refl
+
+showing : (calls : List CompareCall) (x : Comparing) (t : Tuple) → IsDistinct (tuples_of x.mine) →
+    (progress_at (compare_calls x calls).progress t).shown ≡ shown_from x t (progress_at x.progress t).shown calls
+showing [] x t d = refl
+showing (call ∷ calls) x t d =
+    showing calls (compare_after x call) t (distinct_after x call d)
+    ∙ ap (λ (s : Option Opening). shown_from (compare_after x call) t s calls) (shown_is x t call d)
+
+pub keeps_shown : KeepsShown
+keeps_shown start calls t = showing calls (start_of start) t (distinct_start start)

@@ -1,4 +1,6 @@
-pub mod AgeLemmas
-pub mod FindLemmas
 pub mod LineLemmas
+pub mod FindLemmas
 pub mod NumberLemmas
+pub mod StartLemmas
+pub mod SegmentLemmas
+pub mod AgeLemmas

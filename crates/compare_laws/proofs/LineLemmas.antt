@@ -18,16 +18,22 @@ use Rattle.tcp_track.proofs.StandingLemmas.{keeps_each_line, opening_of_line}
 use Rattle.tcp_track.proofs.SymbolLemmas.{line_fits}
 use Rattle.out_compare.specs.Comparing.{Comparing, nothing_compared, take_own, take_heard, learn, settle, capture, acknowledge, leave_alone}
 use Rattle.out_compare.specs.Look.{look, look_with, looked}
-use Rattle.compare_laws.specs.Calls.{CompareCall, sends, hears, learns, settles, looks, captures, acknowledges, remains, compare_after, compare_calls, comparing_of, frames_sent, frames_heard, trim_in, own_call, own_calls, own_items, heard_items, has_acknowledgement}
-use Rattle.compare_laws.specs.Laws.{KeepsOwnLines, TakesEachFrame, KeepsOwnOrder, GoesOn, KnowsWhatWasHeard, KnowsACopy}
+use Rattle.compare_laws.specs.Calls.{CompareCall, sends, hears, learns, settles, looks, captures, acknowledges, remains, compare_after, compare_calls, comparing_of, frames_sent, frames_heard, trim_in, own_call, own_calls, own_items, heard_call, heard_calls, heard_items, has_acknowledgement}
+use Rattle.compare_laws.specs.Laws.{KeepsOwnLines, TakesEachFrame, KeepsOwnOrder, GoesOn, KnowsWhatWasHeard, HearsEachFrame, KnowsACopy}
 
 -- THE OWN LINES
 
-look_step : (mine : Tracking) (s : TcpFields) (edge : ℕ) (shown : Option Opening) →
-    (look_with mine s edge shown).mine ≡ fold call_after mine (trim_in (client_tuple_of s)
-    (look_with mine s edge shown).seen (look_with mine s edge shown).trim)
-look_step mine s edge None = refl
-look_step mine s edge (Some shown) = refl
+look_step : (mine theirs : Tracking) (s : TcpFields) (edge : ℕ) (shown : Option Opening) →
+    (look_with mine theirs s edge shown).mine ≡ fold call_after mine (trim_in (client_tuple_of s)
+    (look_with mine theirs s edge shown).seen (look_with mine theirs s edge shown).trim)
+look_step mine theirs s edge None = refl
+look_step mine theirs s edge (Some shown) = refl
+
+look_hears : (mine theirs : Tracking) (s : TcpFields) (edge : ℕ) (shown : Option Opening) →
+    (look_with mine theirs s edge shown).theirs ≡ fold call_after theirs (trim_in (client_tuple_of s)
+    (look_with mine theirs s edge shown).seen (look_with mine theirs s edge shown).trim)
+look_hears mine theirs s edge None = refl
+look_hears mine theirs s edge (Some shown) = refl
 
 own_step : (x : Comparing) (call : CompareCall) → (compare_after x call).mine ≡ fold call_after x.mine (own_call x call)
 unfolding take_own take_heard learn settle look capture acknowledge
@@ -35,7 +41,7 @@ own_step x (sends frame) = refl
 own_step x (hears frame) = refl
 own_step x (learns t client number) = refl
 own_step x (settles is_turn) = refl
-own_step x (looks s) = look_step x.mine s _ _
+own_step x (looks s) = look_step x.mine x.theirs s _ _
 own_step x captures = refl
 own_step x acknowledges = refl
 own_step x remains = refl
@@ -84,61 +90,73 @@ takes_each_frame calls = own_sends nothing_compared calls
 
 -- THE KNOWN LINES
 
+heard_look : (x : Comparing) (s : TcpFields) →
+    (looked x s).theirs ≡ fold call_after x.theirs (heard_call x (looks s))
+unfolding look
+heard_look x s = look_hears x.mine x.theirs s _ _
+
 heard_fold : (x : Comparing) (calls : List CompareCall) → has_acknowledgement calls ≡ false →
-    (compare_calls x calls).theirs ≡ fold call_after x.theirs (map takes (frames_heard calls))
+    (compare_calls x calls).theirs ≡ fold call_after x.theirs (heard_calls x calls)
 unfolding take_own take_heard learn settle capture acknowledge
 heard_fold x [] h = refl
 heard_fold x (sends frame ∷ calls) h = heard_fold (take_own x frame) calls h
 heard_fold x (hears frame ∷ calls) h = heard_fold (take_heard x frame) calls h
 heard_fold x (learns t client number ∷ calls) h = heard_fold (learn x t client number) calls h
 heard_fold x (settles is_turn ∷ calls) h = heard_fold (settle x is_turn) calls h
-heard_fold x (looks s ∷ calls) h = heard_fold (looked x s) calls h
+heard_fold x (looks s ∷ calls) h =
+    heard_fold (looked x s) calls h
+    ∙ ap (λ (m : Tracking). fold call_after m (heard_calls (looked x s) calls)) (heard_look x s)
+    ∙ sym (fold-append call_after x.theirs (heard_call x (looks s)) (heard_calls (looked x s) calls))
 heard_fold x (captures ∷ calls) h = heard_fold (capture x) calls h
 heard_fold x (acknowledges ∷ calls) h = absurd (true≢false h)
 heard_fold x (remains ∷ calls) h = heard_fold (leave_alone x) calls h
 
-taken_items : (frames : List (List ℕ)) → items_of (map takes frames) ≡ map sent (segments frames)
-taken_items [] = refl
-taken_items (frame ∷ frames) = by (counted frame) (taken_items frames)
-  where
-    by : (o : Option TcpFields) → items_of (map takes frames) ≡ map sent (segments frames) →
-        cons_option (option_map sent o) (items_of (map takes frames)) ≡ map sent (cons_option o (segments frames))
-    by None e = e
-    by (Some s) e = ap (λ (items : List Item). sent s ∷ items) e
+pub hears_each_frame : HearsEachFrame
+hears_each_frame x [] = refl
+hears_each_frame x (sends frame ∷ calls) = hears_each_frame (take_own x frame) calls
+hears_each_frame x (hears frame ∷ calls) =
+    sent_next (counted frame) _ _ (hears_each_frame (take_heard x frame) calls)
+hears_each_frame x (learns t client number ∷ calls) = hears_each_frame (learn x t client number) calls
+hears_each_frame x (settles is_turn ∷ calls) = hears_each_frame (settle x is_turn) calls
+hears_each_frame x (looks s ∷ calls) =
+    trim_sends (client_tuple_of s) (look x s).seen (look x s).trim (heard_calls (looked x s) calls)
+    ∙ hears_each_frame (looked x s) calls
+hears_each_frame x (captures ∷ calls) = hears_each_frame (capture x) calls
+hears_each_frame x (acknowledges ∷ calls) = hears_each_frame (acknowledge x) calls
+hears_each_frame x (remains ∷ calls) = hears_each_frame (leave_alone x) calls
 
 pub knows_what_was_heard : KnowsWhatWasHeard
 knows_what_was_heard calls t h =
-    let kept = keeps_each_line (map takes (frames_heard calls)) t in
-    subst (λ (m : Tracking). IsHeld (line t (heard_items calls)) (line_at m t))
-    (sym (heard_fold nothing_compared calls h))
-    (subst (λ (items : List Item). IsHeld (line t items) (line_at (tracking_of (map takes (frames_heard calls))) t))
-    (taken_items (frames_heard calls)) kept)
+    subst (λ (m : Tracking). IsHeld (line t (heard_items nothing_compared calls)) (line_at m t))
+    (sym (heard_fold nothing_compared calls h)) (keeps_each_line (heard_calls nothing_compared calls) t)
 
 -- what a tracker is told that ends as the known lines do
-copy_calls : List CompareCall → List CompareCall → List Call
-copy_calls before later = own_calls nothing_compared before ++ commits ∷ map takes (frames_heard later)
+abbrev copy_calls : List CompareCall → List CompareCall → List Call
+copy_calls before later =
+    own_calls nothing_compared before ++ commits ∷ heard_calls (acknowledge (comparing_of before)) later
 
 copied : (before later : List CompareCall) → has_acknowledgement later ≡ false →
     (comparing_of (before ++ acknowledges ∷ later)).theirs ≡ tracking_of (copy_calls before later)
-unfolding acknowledge copy_calls
+unfolding acknowledge
 copied before later h =
-    let told = map takes (frames_heard later) in
+    let told = heard_calls (acknowledge (comparing_of before)) later in
     ap (λ (x : Comparing). x.theirs) (fold-append compare_after nothing_compared before (acknowledges ∷ later))
     ∙ heard_fold (acknowledge (comparing_of before)) later h
     ∙ ap (λ (m : Tracking). fold call_after (committed m) told) (goes_on nothing_compared before)
     ∙ sym (fold-append call_after nothing_tracked (own_calls nothing_compared before) (commits ∷ told))
 
 copied_items : (before later : List CompareCall) →
-    items_of (copy_calls before later) ≡ own_items before ++ commit ∷ heard_items later
-unfolding copy_calls
+    items_of (copy_calls before later)
+    ≡ own_items before ++ commit ∷ heard_items (acknowledge (comparing_of before)) later
 copied_items before later =
-    filter_map-append item_of (own_calls nothing_compared before) (commits ∷ map takes (frames_heard later))
-    ∙ ap (λ (items : List Item). own_items before ++ commit ∷ items) (taken_items (frames_heard later))
+    filter_map-append item_of (own_calls nothing_compared before)
+    (commits ∷ heard_calls (acknowledge (comparing_of before)) later)
 
 pub knows_a_copy : KnowsACopy
 knows_a_copy before later t h =
     let kept = keeps_each_line (copy_calls before later) t in
-    subst (λ (m : Tracking). IsHeld (line t (own_items before ++ commit ∷ heard_items later)) (line_at m t))
+    subst (λ (m : Tracking). IsHeld (line t (own_items before
+    ++ commit ∷ heard_items (acknowledge (comparing_of before)) later)) (line_at m t))
     (sym (copied before later h))
     (subst (λ (items : List Item). IsHeld (line t items) (line_at (tracking_of (copy_calls before later)) t))
     (copied_items before later) kept)

@@ -1,5 +1,5 @@
 -- The kept numbers, call by call.
-use Rattle.std.proofs.Common.{◌≡◌, ℕ, Bool, true, false, not, ◌&&◌, ◌||◌, ◌==◌, cond, List, [], ◌∷◌, ◌++◌, append-nil, append_assoc, map, filter, find, Option, None, Some, is_some, if◌then◌else◌, refl, sym, ap, ap₂, subst, ◌∙◌, true≢false}
+use Rattle.std.proofs.Common.{◌≡◌, ℕ, Bool, true, false, not, ◌&&◌, ◌||◌, ◌==◌, cond, List, [], ◌∷◌, ◌++◌, append-nil, append_assoc, map, filter, find, Option, None, Some, is_some, if◌then◌else◌, unwrap_or, refl, sym, ap, ap₂, subst, ◌∙◌, true≢false}
 use Rattle.std.specs.List.{list_any, cons_option}
 use Rattle.std.specs.Map.{lookup}
 use Rattle.std.specs.Option.{option_map}
@@ -22,11 +22,13 @@ use Rattle.tcp_track.proofs.StandingLemmas.{opening_of_line}
 use Rattle.tcp_track.proofs.SymbolLemmas.{opening_more, rst_opens_not, same_opening_is}
 use Rattle.tcp_track.proofs.TupleLemmas.{same_tuple-eq}
 use Rattle.seq_rewriter.specs.Kept.{KeptNumbers, keep_number, number_of}
-use Rattle.settle_rules.specs.Numbers.{KeptNumber, is_known, is_number_of, learn_number, learn_all, new_number, thin, learn as learn_kept}
+use Rattle.settle_rules.specs.Matching.{client_or_zero}
+use Rattle.settle_rules.specs.Numbers.{KeptNumber, kept_number, number_or_zero, is_known, is_number_of, learn_number, learn_all, new_number, thin, learn as learn_kept}
+use Rattle.settle_table.specs.Kept.{both_kept}
 use Rattle.out_compare.specs.Comparing.{Comparing, nothing_compared, is_kept, take_own, take_heard, learn, settle, capture, acknowledge}
 use Rattle.out_compare.specs.Noting.{note_number, note_unknown, number_with, opening_made, unknown_with}
-use Rattle.compare_laws.specs.Calls.{CompareCall, sends, hears, learns, settles, looks, captures, acknowledges, remains, compare_after, comparing_of, frame_sent, frames_sent, incarnation_of, numbers_after, numbers_from, numbers_with, own_calls, own_items, table_of}
-use Rattle.compare_laws.specs.Laws.{KeepsNumbers, KnowsNumbers}
+use Rattle.compare_laws.specs.Calls.{CompareCall, sends, hears, learns, settles, looks, captures, acknowledges, remains, compare_after, comparing_of, frame_sent, frames_sent, incarnation_of, numbers_after, numbers_from, numbers_of, numbers_with, own_calls, own_items, table_of}
+use Rattle.compare_laws.specs.Laws.{KeepsNumbers, KnowsNumbers, SettlesWithKeptNumbers}
 use Rattle.compare_laws.proofs.FindLemmas.{any-filter, any-find, any-insert, find-filter, find-holds, find-map, find-push, find-same, found_first, found_first-none, same_incarnation-comm, same_incarnation-eq, same_incarnation-refl}
 use Rattle.compare_laws.proofs.LineLemmas.{current_of, goes_on}
 
@@ -639,3 +641,31 @@ knows_numbers calls is_turn t client =
     ∙ (sym (h.known i)
     ∙ sym (ap (λ (o : Option KeptNumber). is_known o) (find-same (is_number_of t client) (is_of i)
     (number_of-is t client) kept)))
+
+-- THE NUMBERS THAT A SETTLING READS
+
+number_is : (kept : List KeptNumber) (t : Tuple) (client : ℕ) →
+    unwrap_or (number_of (table_of kept) t client) 0 ≡ number_or_zero (kept_number t client kept)
+number_is kept t client =
+    let i : Incarnation = record { tuple = t; client = client } in
+    ap (λ (o : Option ℕ). unwrap_or o 0) (lookup-table i kept)
+    ∙ by (find (is_of i) kept)
+    ∙ sym (ap (λ (o : Option KeptNumber). number_or_zero o) (find-same (is_number_of t client) (is_of i)
+    (number_of-is t client) kept))
+  where
+    by : (o : Option KeptNumber) → unwrap_or (option_map (λ (k : KeptNumber). k.number) o) 0 ≡ number_or_zero o
+    by None = refl
+    by (Some k) = refl
+
+pub settles_with_kept_numbers : SettlesWithKeptNumbers
+unfolding both_kept
+settles_with_kept_numbers calls is_turn t l =
+    let x = comparing_of calls in
+    let client = client_or_zero l.opening in
+    record {
+      number = ap (λ (ns : KeptNumbers). unwrap_or (number_of ns t client) 0) (keeps_numbers calls)
+          ∙ number_is (numbers_of calls) t client;
+      known = ap (λ (b : Bool). x.is_alone || b) (knows_numbers calls is_turn t client);
+      mine = refl;
+      theirs = refl;
+    }

@@ -10,9 +10,10 @@ use Rattle.settle_rules.specs.Progress.{AgeKey, Progress}
 use Rattle.settle_rules.specs.Settle.{age_key_of, same_age_key, new_edge}
 use Rattle.settle_table.specs.Kept.{KeptScene, both_kept, is_restarted}
 use Rattle.settle_table.specs.Table.{progress_at}
-use Rattle.out_compare.specs.Comparing.{Comparing, nothing_compared, scene_of, settle}
+use Rattle.out_compare.specs.Comparing.{Comparing, scene_of, settle}
 use Rattle.out_compare.specs.Noting.{opening_made}
 use Rattle.compare_laws.specs.Calls.{CompareCall, sends, settles, acknowledges, compare_after}
+use Rattle.compare_laws.specs.Starts.{Start, start_of}
 
 -- THE EDGE
 
@@ -40,8 +41,10 @@ edge_from x t edge [] = edge
 edge_from x t edge (call ∷ calls) =
     edge_from (compare_after x call) t (edge_after x t edge call) calls
 
-abbrev pub edge_of : Tuple → List CompareCall → ℕ
-edge_of t calls = edge_from nothing_compared t 0 calls
+-- from a start on: a new comparer's is 0
+abbrev pub edge_of : Start → Tuple → List CompareCall → ℕ
+edge_of start t calls =
+    edge_from (start_of start) t (progress_at (start_of start).progress t).edge calls
 
 -- THE AGE
 
@@ -60,11 +63,9 @@ abbrev pub sights_with : KeptScene → Tuple → Progress → Option LineFields 
 sights_with scene t p None earlier = earlier
 sights_with scene t p (Some l) earlier = sight_of (both_kept scene t l) p ∷ earlier
 
--- the latest first; a turn in which the connection was restarted is not counted
+-- the latest first
 abbrev pub sights_at_end : KeptScene → Tuple → Progress → List Sight → List Sight
-sights_at_end scene t p earlier =
-    if is_restarted scene t then earlier
-    else sights_with scene t p (line_at scene.mine t) earlier
+sights_at_end scene t p earlier = sights_with scene t p (line_at scene.mine t) earlier
 
 -- the ends of turns since the last acknowledgement
 abbrev pub sights_after : Comparing → Tuple → List Sight → CompareCall → List Sight
@@ -80,8 +81,8 @@ sights_from x t earlier [] = earlier
 sights_from x t earlier (call ∷ calls) =
     sights_from (compare_after x call) t (sights_after x t earlier call) calls
 
-abbrev pub sights_of : Tuple → List CompareCall → List Sight
-sights_of t calls = sights_from nothing_compared t [] calls
+abbrev pub sights_of : Start → Tuple → List CompareCall → List Sight
+sights_of start t calls = sights_from (start_of start) t [] calls
 
 -- for how many turns in a row, from the latest back, a connection was unmatched with one key
 abbrev pub turns_in_a_row : AgeKey → List Sight → ℕ

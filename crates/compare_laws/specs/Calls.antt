@@ -83,9 +83,20 @@ own_calls x (call ∷ calls) = own_call x call ++ own_calls (compare_after x cal
 abbrev pub own_items : List CompareCall → List Item
 own_items calls = items_of (own_calls nothing_compared calls)
 
--- the segments that were heard
-abbrev pub heard_items : List CompareCall → List Item
-heard_items calls = map sent (segments (frames_heard calls))
+-- what a call says to the known lines of the other guest: a frame that was heard, or a client's
+-- trim, which is that of the own lines
+abbrev pub heard_call : Comparing → CompareCall → List Call
+heard_call x (hears frame) = takes frame ∷ []
+heard_call x (looks s) = trim_in (client_tuple_of s) (look x s).seen (look x s).trim
+heard_call x _ = []
+
+abbrev pub heard_calls : Comparing → List CompareCall → List Call
+heard_calls x [] = []
+heard_calls x (call ∷ calls) = heard_call x call ++ heard_calls (compare_after x call) calls
+
+-- the segments that were heard from a comparer on, and the trims between them
+abbrev pub heard_items : Comparing → List CompareCall → List Item
+heard_items x calls = items_of (heard_calls x calls)
 
 abbrev pub is_acknowledgement : CompareCall → Bool
 is_acknowledgement acknowledges = true

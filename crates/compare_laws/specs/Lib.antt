@@ -1,3 +1,5 @@
 pub mod Calls
+pub mod Starts
 pub mod Ages
+pub mod Progressing
 pub mod Laws

@@ -7,4 +7,4 @@ mod progress;
 mod settling;
 
 pub use progress::{AgeBasis, LastAck, Progress};
-pub use settling::settle_one;
+pub use settling::settle_or_rest;

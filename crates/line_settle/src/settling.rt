@@ -6,7 +6,7 @@ ghost use Rattle.line_release.specs.Prefix.{Begins};
 ghost use Rattle.line_match.specs.Untrimmed.{IsUntrimmed};
 ghost use Rattle.settle_rules.specs.Matching.{client_or_zero, matched_end};
 ghost use Rattle.settle_rules.specs.Release.{released_frame, release_bare};
-ghost use Rattle.settle_rules.specs.Settle.{settle_one, new_edge, shown_after, grow_older};
+ghost use Rattle.settle_rules.specs.Settle.{settle_one, settle_or_rest, new_edge, shown_after, grow_older};
 ghost use Rattle.line_settle.specs.Parts.{plain_out, settled_progress, aged, symbols_out, bare_goes, reset_goes, refusal_goes, last_after, all_out};
 ghost use Rattle.line_settle.specs.ProgressFields.{ack_window_of};
 
@@ -168,7 +168,7 @@ fn release_by_rules(
 /// node's own line isn't trimmed past the edge. After `NoMemory` the list begins with what it held,
 /// and the progress is as it was.
 #[tactic(auto, unfolding(settle_rules::specs::Settle::settle_one))]
-pub fn settle_one(
+fn settle_one(
     alloc: Global,
     both: &Both,
     progress: &mut Progress,
@@ -186,6 +186,36 @@ pub fn settle_one(
     ensures after { progress.old.edge ≤ progress.new.edge }
 {
     release_by_rules(alloc, both, progress, tooks, out)?;
+    if is_turn {
+        grow_older(both, progress);
+    }
+    Ok(())
+}
+
+/// Settles one connection, unless it was restarted in the event: then nothing of it goes out, and
+/// its age alone is counted. The node's own line isn't trimmed past the edge. After `NoMemory` the
+/// list begins with what it held, and the progress is as it was.
+pub fn settle_or_rest(
+    alloc: Global,
+    both: &Both,
+    progress: &mut Progress,
+    is_restarted: bool,
+    is_turn: bool,
+    tooks: &[Took],
+    out: &mut Frames,
+) -> Result<(), NoMemory>
+    requires { IsUntrimmed both.now.mine.now progress.old.edge }
+    ensures progress { OnOk result (progress.new ≡ (settle_or_rest is_restarted (both_of both.now)
+        progress.old is_turn tooks.now).progress) }
+    ensures out { OnOk result (out.new ≡ out.old ++ map released_frame (settle_or_rest is_restarted
+        (both_of both.now) progress.old is_turn tooks.now).out) }
+    ensures err { OnErr result (Begins out.old out.new) }
+    ensures same { OnErr result (progress.new ≡ progress.old) }
+    ensures after { progress.old.edge ≤ progress.new.edge }
+{
+    if !is_restarted {
+        return settle_one(alloc, both, progress, is_turn, tooks, out);
+    }
     if is_turn {
         grow_older(both, progress);
     }

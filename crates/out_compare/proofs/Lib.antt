@@ -1,3 +1,4 @@
+pub mod CutLemmas
 pub mod NoteLemmas
 pub mod OrderLemmas
 pub mod SurviveLemmas

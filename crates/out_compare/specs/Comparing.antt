@@ -5,7 +5,7 @@ use Rattle.tcp_track.specs.Tracking.{Tracking, nothing_tracked, taken, took_of, 
 use Rattle.tcp_track.specs.declared.answers.Took.{Took}
 use Rattle.tcp_track.specs.declared.openings.Incarnation.{Incarnation}
 use Rattle.seq_rewriter.specs.Kept.{KeptNumbers, is_current, number_of, thin}
-use Rattle.settle_rules.specs.OwnFrames.{restarts_of}
+use Rattle.settle_rules.specs.OwnFrames.{note_took, restarts_of}
 use Rattle.settle_rules.specs.Progress.{ProgressTable, clear_ages}
 use Rattle.settle_rules.specs.Settle.{Settlement}
 use Rattle.settle_table.specs.Kept.{KeptScene, settle_kept}
@@ -14,8 +14,8 @@ use Rattle.settle_table.specs.declared.causes.Need.{Need}
 use Rattle.out_compare.specs.Noting.{note_number, note_unknown, note_progress}
 
 -- Both nodes' lines; the kept numbers, and those of them that the other node is not known to have;
--- the progress of each connection; what the event's own segments are so far, and the tuples
--- restarted in it; whether the node is alone.
+-- the progress of each connection; what the event's own segments are so far that aren't ignored,
+-- and the tuples restarted in it; whether the node is alone.
 pub record Comparing : Type 0 where
   pub mine : Tracking
   pub theirs : Tracking
@@ -45,7 +45,7 @@ own_with x frame took = record x {
   numbers = note_number x.numbers took;
   unknown = note_unknown x.numbers x.unknown took;
   progress = note_progress x.progress took;
-  tooks = x.tooks ++ took ∷ [];
+  tooks = note_took x.tooks took;
   restarts = x.restarts ++ restarts_of took.tuple took.what;
 }
 

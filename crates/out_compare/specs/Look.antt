@@ -12,11 +12,13 @@ use Rattle.settle_rules.specs.Progress.{Progress}
 use Rattle.settle_table.specs.Table.{progress_at}
 use Rattle.out_compare.specs.Comparing.{Comparing}
 
--- the opening shown on the tuple, how far the acknowledgement trims, and the lines then
+-- The opening shown on the tuple, how far the acknowledgement trims, and both guests' lines then:
+-- what the client has is forgotten of both.
 pub record Look : Type 0 where
   pub seen : Option Opening
   pub trim : ℕ
   pub mine : Tracking
+  pub theirs : Tracking
 
 -- from 1 to the edge, with ACK, where the node's current opening has the shown client
 abbrev pub trim_of : TcpFields → ℕ → Opening → Option Opening → ℕ
@@ -25,21 +27,23 @@ trim_of s edge shown current =
     && (nat_le (distance shown.own s.ack) edge && is_of_client current shown.client))
     then distance shown.own s.ack else 0
 
-abbrev pub look_with : Tracking → TcpFields → ℕ → Option Opening → Look
-look_with mine s edge None = record { seen = None; trim = 0; mine = mine }
-look_with mine s edge (Some shown) =
+abbrev pub look_with : Tracking → Tracking → TcpFields → ℕ → Option Opening → Look
+look_with mine theirs s edge None =
+    record { seen = None; trim = 0; mine = mine; theirs = theirs }
+look_with mine theirs s edge (Some shown) =
     let to = trim_of s edge shown (current_at mine (client_tuple_of s)) in
     record {
       seen = Some shown;
       trim = to;
       mine = trimmed mine (client_tuple_of s) shown.client to;
+      theirs = trimmed theirs (client_tuple_of s) shown.client to;
     }
 
 unfoldable pub look : Comparing → TcpFields → Look
 unfolding trimmed
 look x s =
     let p = progress_at x.progress (client_tuple_of s) in
-    look_with x.mine s p.edge p.shown
+    look_with x.mine x.theirs s p.edge p.shown
 
 abbrev pub looked : Comparing → TcpFields → Comparing
-looked x s = record x { mine = (look x s).mine }
+looked x s = record x { mine = (look x s).mine; theirs = (look x s).theirs }

@@ -36,6 +36,18 @@ unknown_with numbers unknown t (Some o) =
     if is_some (number_of numbers t o.client) then unknown
     else insert_incarnation unknown (record { tuple = t; client = o.client })
 
+abbrev pub number_if_new : Option ℕ → Opening → Option ℕ
+number_if_new None o = Some o.own
+number_if_new (Some kept) o = None
+
+abbrev pub number_made : KeptNumbers → Tuple → Option Opening → Option ℕ
+number_made numbers t None = None
+number_made numbers t (Some o) = number_if_new (number_of numbers t o.client) o
+
+-- the number that a segment makes newly kept
+abbrev pub new_number : KeptNumbers → Took → Option ℕ
+new_number numbers took = number_made numbers took.tuple (opening_made took.what)
+
 -- and the other node is not known to have it
 abbrev pub note_unknown : KeptNumbers → List Incarnation → Took → List Incarnation
 note_unknown numbers unknown took =

@@ -1,7 +1,6 @@
 //! The comparer.
 
-ghost use Rattle.std.specs.Prelude.{◌≡◌, ◌++◌, true, false, map, OnOk, OnErr, IfOk, IsErr};
-ghost use Rattle.line_release.specs.Prefix.{Begins};
+ghost use Rattle.std.specs.Prelude.{◌≡◌, ◌++◌, true, false, map, OnOk, OnErr, IfOk, IsErr, length, take};
 ghost use Rattle.settle_rules.specs.Release.{released_frame};
 ghost use Rattle.tcp_track.specs.Tracking.{took_of};
 
@@ -40,6 +39,7 @@ impl Compare {
     ghost use Rattle.out_compare.specs.Held.{holds};
     ghost use Rattle.out_compare.specs.Comparing.{nothing_compared, take_own, take_heard, learn, settlement_of, need_after, settle, capture, acknowledge, leave_alone};
     ghost use Rattle.out_compare.specs.Look.{look, looked};
+    ghost use Rattle.out_compare.specs.Noting.{new_number};
     ghost use Rattle.out_compare.specs.Surviving.{survive, survivor};
 
     /// Nothing sent yet. It takes no memory.
@@ -59,11 +59,27 @@ impl Compare {
         ensures err { OnErr result (self.new.spent ≡ true) }
         ensures spent { self.old.spent ≡ true → IsErr result }
     {
+        let (took, number) = self.own(frame)?;
+        let _ = number;
+        Ok(took)
+    }
+
+    /// As `primary`, and says the number of the frame's opening where that is newly kept: it is to
+    /// be told to the other node, which answers by `known`.
+    pub fn own(&mut self, frame: &[u8]) -> Result<(Took, Option<u32>), NoMemory>
+        ensures answer { IfOk result (λ own. own.0
+            ≡ took_of self.old.comparing.mine frame.now) }
+        ensures number { IfOk result (λ own. own.1 ≡ new_number self.old.comparing.numbers
+            (took_of self.old.comparing.mine frame.now)) }
+        ensures after { OnOk result (self.new ≡ holds (take_own self.old.comparing frame.now)) }
+        ensures err { OnErr result (self.new.spent ≡ true) }
+        ensures spent { self.old.spent ≡ true → IsErr result }
+    {
         if self.spent {
             return Err(NoMemory);
         }
         match take_own(&mut self.tables, frame) {
-            Ok(took) => Ok(took),
+            Ok(own) => Ok(own),
             Err(NoMemory) => {
                 self.spent = true;
                 Err(NoMemory)
@@ -100,31 +116,34 @@ impl Compare {
     }
 
     /// Ends an event: adds what it releases to `out`, and says whether a checkpoint is to start;
-    /// `turn` says that the event is a turn of the node's guest. After `NoMemory` the list begins
-    /// with what it held.
+    /// `turn` says that the event is a turn of the node's guest. After `NoMemory` the list is as it
+    /// was.
+    #[tactic(auto, using(crate::proofs::CutLemmas::cut_again))]
     pub fn settle(&mut self, turn: bool, out: &mut Frames) -> Result<Need, NoMemory>
         ensures after { OnOk result (self.new ≡ holds (settle self.old.comparing turn)) }
         ensures out { OnOk result (out.new ≡ out.old
             ++ map released_frame (settlement_of self.old.comparing turn).out) }
         ensures need { IfOk result (λ need. need ≡ need_after self.old.comparing turn) }
-        ensures begins { OnErr result (Begins out.old out.new) }
+        ensures same { OnErr result (out.new ≡ out.old) }
         ensures err { OnErr result (self.new.spent ≡ true) }
         ensures spent { self.old.spent ≡ true → IsErr result }
     {
         if self.spent {
             return Err(NoMemory);
         }
+        let count = out.len();
         match settle(&mut self.tables, turn, out) {
             Ok(need) => Ok(need),
             Err(NoMemory) => {
+                out.truncate(count);
                 self.spent = true;
                 Err(NoMemory)
             }
         }
     }
 
-    /// What a client has seen of its connection, and how far its segment trims the node's own line,
-    /// which is trimmed so. It takes no memory.
+    /// What a client has seen of its connection, and how far its segment trims: both guests' lines
+    /// are trimmed so, since neither is asked for what the client has. It takes no memory.
     pub fn client(&mut self, view: &TcpView) -> (Option<Opening>, Offset)
         ensures seen { result.0 ≡ (look self.old.comparing view.now).seen }
         ensures trim { result.1 ≡ (look self.old.comparing view.now).trim }
@@ -178,7 +197,8 @@ impl Compare {
     }
 
     /// The comparer of a surviving secondary, alone, which adds its release at the report of the
-    /// primary's stop to `out`. After `NoMemory` the list begins with what it held.
+    /// primary's stop to `out`. After `NoMemory` the list is as it was.
+    #[tactic(auto, using(crate::proofs::CutLemmas::cut_again))]
     pub fn survive(
         alloc: Global,
         lines: Tracker,
@@ -188,13 +208,19 @@ impl Compare {
         ensures after { IfOk result (λ c. c ≡ holds (survivor lines (survive lines numbers))) }
         ensures out { OnOk result (out.new ≡ out.old
             ++ map released_frame (survive lines numbers).out) }
-        ensures err { OnErr result (Begins out.old out.new) }
+        ensures err { OnErr result (out.new ≡ out.old) }
     {
-        let tables = survive(alloc, lines, numbers, out)?;
-        Ok(Compare {
-            tables,
-            spent: false,
-        })
+        let held = out.len();
+        match survive(alloc, lines, numbers, out) {
+            Ok(tables) => Ok(Compare {
+                tables,
+                spent: false,
+            }),
+            Err(NoMemory) => {
+                out.truncate(held);
+                Err(NoMemory)
+            }
+        }
     }
 
     /// The other node stopped: from now on the node is alone. It takes no memory.

@@ -1,11 +1,11 @@
 //! What one segment of the node's own guest changes beside its line.
 
-ghost use Rattle.std.specs.Prelude.{◌≡◌, ◌++◌, is_some, if◌then◌else◌, unwrap_or, OnOk};
-ghost use Rattle.settle_rules.specs.OwnFrames.{restarts_of, progress_with};
+ghost use Rattle.std.specs.Prelude.{◌≡◌, ◌++◌, is_some, if◌then◌else◌, unwrap_or, OnOk, IfOk};
+ghost use Rattle.settle_rules.specs.OwnFrames.{is_ignored, note_took, restarts_of, progress_with};
 ghost use Rattle.seq_rewriter.specs.Kept.{keep_number, number_of};
 ghost use Rattle.tcp_track.specs.Tracking.{insert_incarnation};
 ghost use Rattle.settle_table.specs.Table.{progress_at, set_progress};
-ghost use Rattle.out_compare.specs.Noting.{opening_made, number_with, unknown_with, note_number, note_unknown, is_noted, note_progress};
+ghost use Rattle.out_compare.specs.Noting.{opening_made, number_with, number_if_new, unknown_with, new_number, note_number, note_unknown, is_noted, note_progress};
 
 use colo_base::NoMemory;
 use indexmap::{IndexMap, IndexSet};
@@ -14,6 +14,30 @@ use line_settle::Progress;
 use seq_rewriter::Numbers;
 use settle_table::add_progress;
 use tcp_track::{Incarnation, Opening, Took, What};
+
+fn is_ignored(what: What) -> bool
+    ensures { result ≡ is_ignored what }
+{
+    match what {
+        What::Ignored => true,
+        What::Opened(_) => false,
+        What::Restarted(_) => false,
+        What::Symbols { from: _, to: _ } => false,
+        What::Reset => false,
+        What::Refused(_) => false,
+    }
+}
+
+/// Notes what a segment of the event is, where it isn't ignored.
+pub(crate) fn note_took(tooks: &mut Vec<Took>, took: Took) -> Result<(), NoMemory>
+    ensures { OnOk result (tooks.new.items ≡ note_took tooks.old.items took) }
+{
+    if is_ignored(took.what) {
+        return Ok(());
+    }
+    tooks.push(took)?;
+    Ok(())
+}
 
 /// Notes a restart.
 pub(crate) fn note_restart(restarts: &mut Vec<Tuple>, took: Took) -> Result<(), NoMemory>
@@ -56,14 +80,16 @@ fn insert(unknown: &mut IndexSet<Incarnation>, incarnation: Incarnation) -> Resu
     Ok(())
 }
 
-/// Keeps the number of an opening where none is kept for its client; then the other node isn't
-/// known to have it.
+/// Keeps the number of an opening where none is kept for its client, and answers it then; the other
+/// node isn't known to have it.
 fn keep_number(
     numbers: &mut Numbers,
     unknown: &mut IndexSet<Incarnation>,
     tuple: Tuple,
     opening: Opening,
-) -> Result<(), NoMemory>
+) -> Result<Option<u32>, NoMemory>
+    ensures new { IfOk result (λ new. new
+        ≡ number_if_new (number_of numbers.old tuple opening.client) opening) }
     ensures numbers { OnOk result (numbers.new
         ≡ keep_number numbers.old tuple opening.client opening.own) }
     ensures unknown { OnOk result (unknown.new.keys
@@ -71,30 +97,33 @@ fn keep_number(
         else insert_incarnation unknown.old.keys
         (record { tuple = tuple; client = opening.client }))) }
 {
+    let mut new = None;
     if numbers.number(&tuple, opening.client).is_none() {
         let incarnation = Incarnation {
             tuple,
             client: opening.client,
         };
         insert(unknown, incarnation)?;
+        new = Some(opening.own);
     }
     let kept = numbers.opened(&tuple, opening.client, opening.own)?;
     let _ = kept;
-    Ok(())
+    Ok(new)
 }
 
-/// Keeps the number of an opening that a segment makes.
+/// Keeps the number of an opening that a segment makes, and answers it where it is newly kept.
 pub(crate) fn note_number(
     numbers: &mut Numbers,
     unknown: &mut IndexSet<Incarnation>,
     took: Took,
-) -> Result<(), NoMemory>
+) -> Result<Option<u32>, NoMemory>
+    ensures new { IfOk result (λ new. new ≡ new_number numbers.old took) }
     ensures numbers { OnOk result (numbers.new ≡ note_number numbers.old took) }
     ensures unknown { OnOk result (unknown.new.keys
         ≡ note_unknown numbers.old unknown.old.keys took) }
 {
     match opening_made(took.what) {
-        None => Ok(()),
+        None => Ok(None),
         Some(opening) => keep_number(numbers, unknown, took.tuple, opening),
     }
 }

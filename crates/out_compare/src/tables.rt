@@ -13,9 +13,10 @@ ghost use Rattle.line_release.specs.Prefix.{Begins};
 ghost use Rattle.settle_rules.specs.Release.{released_frame};
 ghost use Rattle.out_compare.specs.Comparing.{nothing_compared, take_own, take_heard, learn, is_kept, settlement_of, need_after, settle, capture, acknowledge};
 ghost use Rattle.out_compare.specs.Look.{look, looked, trim_of};
+ghost use Rattle.out_compare.specs.Noting.{new_number};
 ghost use Rattle.out_compare.specs.Held.{comparing, IsInOrder};
 
-use crate::noting::{note_number, note_progress, note_restart};
+use crate::noting::{note_number, note_progress, note_restart, note_took};
 use colo_base::{Frames, NoMemory};
 use indexmap::{IndexMap, IndexSet};
 use inet_frame::{TcpView, Tuple};
@@ -26,8 +27,8 @@ use std::alloc::Global;
 use tcp_track::{Incarnation, Line, Offset, Opening, Took, Tracker};
 
 /// Both nodes' lines, the kept numbers and those of them that the other node isn't known to have,
-/// the progress of each connection, what the event's own segments are so far, the tuples restarted
-/// in it, and whether the node is alone.
+/// the progress of each connection, what the event's own segments are so far that aren't ignored,
+/// the tuples restarted in it, and whether the node is alone.
 #[derive(Drop)]
 pub(crate) struct Tables {
     pub(crate) mine: Tracker,
@@ -56,21 +57,23 @@ pub(crate) fn no_tables(alloc: Global) -> Tables
     }
 }
 
-/// Takes a frame of the node's own guest.
+/// Takes a frame of the node's own guest, and says what it was, and the number that is newly kept.
 #[tactic(auto, unfolding(crate::specs::Comparing::take_own))]
-pub(crate) fn take_own(tables: &mut Tables, frame: &[u8]) -> Result<Took, NoMemory>
+pub(crate) fn take_own(tables: &mut Tables, frame: &[u8]) -> Result<(Took, Option<u32>), NoMemory>
     requires { IsInOrder (comparing tables.old) }
-    ensures answer { IfOk result (λ took. took ≡ took_of tables.old.mine frame.now) }
+    ensures answer { IfOk result (λ own. own.0 ≡ took_of tables.old.mine frame.now) }
+    ensures number { IfOk result (λ own. own.1
+        ≡ new_number tables.old.numbers (took_of tables.old.mine frame.now)) }
     ensures after { OnOk result (comparing tables.new
         ≡ take_own (comparing tables.old) frame.now) }
     ensures order { OnOk result (IsInOrder (comparing tables.new)) }
 {
     let took = tables.mine.take(frame)?;
-    tables.tooks.push(took)?;
+    note_took(&mut tables.tooks, took)?;
     note_restart(&mut tables.restarts, took)?;
-    note_number(&mut tables.numbers, &mut tables.unknown, took)?;
+    let number = note_number(&mut tables.numbers, &mut tables.unknown, took)?;
     note_progress(&mut tables.progress, took)?;
-    Ok(took)
+    Ok((took, number))
 }
 
 /// Takes a frame that the other node's guest sent.
@@ -225,7 +228,7 @@ fn progress_of(table: &IndexMap<Tuple, Progress>, tuple: &Tuple) -> (Offset, Opt
     }
 }
 
-/// What a client has seen of its connection, and how far its segment trims; the node's own line is
+/// What a client has seen of its connection, and how far its segment trims; both guests' lines are
 /// trimmed so.
 #[tactic(auto, unfolding(crate::specs::Look::look))]
 pub(crate) fn look(tables: &mut Tables, view: &TcpView) -> (Option<Opening>, Offset)
@@ -242,6 +245,7 @@ pub(crate) fn look(tables: &mut Tables, view: &TcpView) -> (Option<Opening>, Off
             let is_current = is_of_client(tables.mine.line(&tuple), shown.client);
             let trim = trim_of(view, edge, shown, is_current);
             tables.mine.trim(&tuple, shown.client, trim);
+            tables.theirs.trim(&tuple, shown.client, trim);
             (Some(shown), trim)
         }
     }

@@ -9,8 +9,8 @@ use Rattle.tcp_track.specs.declared.openings.Opening.{Opening}
 use Rattle.settle_rules.specs.Progress.{AckWindow, Progress}
 
 -- The releasing node's own line, and what it knows of the other node's: the line of all that it
--- heard, on top of a copy of its own at the last acknowledgement. A node alone has its own line in
--- the place of both. The number is the kept one.
+-- heard, on top of a copy of its own at the last acknowledgement. A client's trim that it takes
+-- trims both. A node alone has its own line in the place of both. The number is the kept one.
 pub record BothLines : Type 0 where
   pub tuple : Tuple
   pub mine : Line

@@ -1,6 +1,6 @@
 -- What the frames of the releasing node's own guest are in one event: what each shows, restarts,
 -- numbers, what becomes due.
-use Rattle.std.specs.Prelude.{true, false, List, [], ◌∷◌, ◌++◌, fold}
+use Rattle.std.specs.Prelude.{Bool, true, false, if◌then◌else◌, List, [], ◌∷◌, ◌++◌, fold}
 use Rattle.inet_frame.specs.Counted.{tuple_of}
 use Rattle.inet_frame.specs.Fields.{TcpFields}
 use Rattle.inet_frame.specs.declared.tuple.Tuple.{Tuple}
@@ -22,6 +22,18 @@ took_after items s = record {
   what = what_of (line (tuple_of s) items).opening (is_restart items s) s;
 }
 
+-- a segment that is ignored isn't noted among those of the event
+abbrev pub is_ignored : What → Bool
+is_ignored Ignored = true
+is_ignored (Opened _) = false
+is_ignored (Restarted _) = false
+is_ignored (Symbols _ _) = false
+is_ignored Reset = false
+is_ignored (Refused _) = false
+
+abbrev pub note_took : List Took → Took → List Took
+note_took tooks took = if is_ignored took.what then tooks else tooks ++ took ∷ []
+
 abbrev pub restarts_of : Tuple → What → List Tuple
 restarts_of t Ignored = []
 restarts_of t (Opened _) = []
@@ -39,8 +51,8 @@ progress_with (Symbols _ _) p = p
 progress_with Reset p = record p { reset_due = true }
 progress_with (Refused _) p = record p { refusal_due = true }
 
--- The items with the event's segments, what each of them is, the tuples that were restarted, the
--- numbers kept, those of them that are new, and the progress of each tuple.
+-- The items with the event's segments, what each of them is that isn't ignored, the tuples that
+-- were restarted, the numbers kept, those of them that are new, and the progress of each tuple.
 pub record OwnFrames : Type 0 where
   pub items : List Item
   pub tooks : List Took
@@ -52,7 +64,7 @@ pub record OwnFrames : Type 0 where
 abbrev pub own_with : OwnFrames → TcpFields → Took → OwnFrames
 own_with own s took = record {
   items = own.items ++ sent s ∷ [];
-  tooks = own.tooks ++ took ∷ [];
+  tooks = note_took own.tooks took;
   restarts = own.restarts ++ restarts_of took.tuple took.what;
   numbers = own.numbers ++ new_number own.numbers s;
   new_numbers = own.new_numbers ++ new_number own.numbers s;

@@ -81,8 +81,7 @@ shown_after client shown (tcp s _ ∷ out) =
     (if s.flags == syn_ack then Some (record { client = client; own = s.seq }) else shown) out
 
 -- The age: the number of turns of the primary in a row at whose end the connection was unmatched
--- with one client, matched end and smaller acknowledgement. Ages of restarted connections are not
--- counted: a checkpoint starts in that event, and its acknowledgement begins all ages anew.
+-- with one client, matched end and smaller acknowledgement.
 abbrev pub age_key_of : BothLines → ℕ → AgeKey
 age_key_of b m =
     record { client = client_or_zero b.mine.opening; matched = m; acked = smaller_acked b }
@@ -128,6 +127,17 @@ settle_one b p is_turn tooks =
       out = plain ++ release_refusal b b.mine.refused refuses;
     }
 
+-- a connection that was restarted in the event: nothing of it goes out, and its age is counted
+abbrev pub rest_one : BothLines → Progress → Bool → Settled
+rest_one b p is_turn = record {
+  progress = if is_turn then grow_older b (matched_end b p.edge) p else p;
+  out = [];
+}
+
+abbrev pub settle_or_rest : Bool → BothLines → Progress → Bool → List Took → Settled
+settle_or_rest restarted b p is_turn tooks =
+    if restarted then rest_one b p is_turn else settle_one b p is_turn tooks
+
 -- An event that settles: the items of both nodes' lines, the kept numbers, whether the node is
 -- alone, whether this is a turn of the primary or of a node alone, what the event's own segments
 -- are, and the tuples restarted in it.
@@ -165,15 +175,14 @@ pub record Settlement : Type 0 where
 unfoldable pub settle_tuple : Scene → Settlement → Tuple → Settlement
 unfolding both_lines settle_one
 settle_tuple scene so_far t =
-    if is_restarted scene t then so_far
-    else (let b = both_lines scene t in
-    let one = settle_one b (progress_of t so_far.progress) scene.is_turn scene.tooks in
+    let one = settle_or_rest (is_restarted scene t) (both_lines scene t)
+    (progress_of t so_far.progress) scene.is_turn scene.tooks in
     record {
       progress = put_progress t one.progress so_far.progress;
       out = so_far.out ++ one.out;
-    })
+    }
 
--- each tuple in table order, without those restarted in the event
+-- Each tuple in table order. Nothing goes out of those restarted in the event.
 unfoldable pub settle : Scene → List Tuple → ProgressTable → Settlement
 unfolding settle_tuple
 settle scene tuples progress =

@@ -13,8 +13,8 @@ use Rattle.tcp_track.specs.declared.openings.Incarnation.{Incarnation}
 use Rattle.seq_rewriter.specs.Kept.{KeptNumbers, number_of}
 use Rattle.line_release.specs.Whole.{whole_of}
 use Rattle.settle_rules.specs.Matching.{BothLines, client_or_zero}
-use Rattle.settle_rules.specs.Progress.{ProgressTable}
-use Rattle.settle_rules.specs.Settle.{Settlement, settle_one}
+use Rattle.settle_rules.specs.Progress.{Progress, ProgressTable}
+use Rattle.settle_rules.specs.Settle.{Settled, Settlement, settle_one, settle_or_rest}
 use Rattle.settle_table.specs.Table.{progress_at, set_progress}
 
 -- An event that settles: the tables of the node's own lines and of the other's known ones, the kept
@@ -59,23 +59,26 @@ is_restarted scene t = list_any (same_tuple t) scene.restarts
 abbrev pub no_release : ProgressTable → Settlement
 no_release progress = record { progress = progress; out = [] }
 
+-- what goes out of one line, and its progress then
+unfoldable pub line_settled : KeptScene → Progress → Tuple → LineFields → Settled
+unfolding both_kept settle_one
+line_settled scene p t l =
+    settle_or_rest (is_restarted scene t) (both_kept scene t l) p scene.is_turn scene.tooks
+
 -- what goes out of one tuple, and the table of progress then
 unfoldable pub settle_line : KeptScene → ProgressTable → Tuple → LineFields → Settlement
-unfolding both_kept settle_one
+unfolding line_settled
 settle_line scene progress t l =
-    let one = settle_one (both_kept scene t l) (progress_at progress t) scene.is_turn scene.tooks in
+    let one = line_settled scene (progress_at progress t) t l in
     record { progress = set_progress progress t one.progress; out = one.out }
 
 abbrev pub settle_found : KeptScene → ProgressTable → Tuple → Option LineFields → Settlement
 settle_found scene progress t None = no_release progress
 settle_found scene progress t (Some l) = settle_line scene progress t l
 
--- a tuple restarted in the event is left out
 unfoldable pub settle_kept_tuple : KeptScene → ProgressTable → Tuple → Settlement
 unfolding settle_line
-settle_kept_tuple scene progress t =
-    if is_restarted scene t then no_release progress
-    else settle_found scene progress t (line_at scene.mine t)
+settle_kept_tuple scene progress t = settle_found scene progress t (line_at scene.mine t)
 
 abbrev pub add_tuple : KeptScene → Settlement → Tuple → Settlement
 add_tuple scene so_far t =
@@ -89,7 +92,7 @@ tuples_of mine = keys_of mine.entries
 abbrev pub settle_tuples : KeptScene → ProgressTable → List Tuple → Settlement
 settle_tuples scene progress tuples = fold (add_tuple scene) (no_release progress) tuples
 
--- each tuple in table order
+-- Each tuple in table order. Nothing goes out of those restarted in the event.
 unfoldable pub settle_kept : KeptScene → ProgressTable → Settlement
 unfolding settle_kept_tuple
 settle_kept scene progress = settle_tuples scene progress (tuples_of scene.mine)

@@ -5,7 +5,7 @@ ghost use Rattle.line_release.specs.Both.{both_of};
 ghost use Rattle.line_release.specs.Prefix.{Begins};
 ghost use Rattle.line_match.specs.Untrimmed.{IsUntrimmed};
 ghost use Rattle.settle_rules.specs.Release.{released_frame};
-ghost use Rattle.settle_rules.specs.Settle.{settle_one};
+ghost use Rattle.settle_rules.specs.Settle.{settle_or_rest};
 ghost use Rattle.settle_table.specs.Table.{AreUntrimmed, progress_at, set_progress};
 ghost use Rattle.settle_table.specs.Kept.{settle_kept, settle_kept_tuple};
 ghost use Rattle.settle_table.specs.Scenes.{kept_scene};
@@ -16,16 +16,17 @@ use colo_base::{Frames, NoMemory};
 use indexmap::IndexMap;
 use inet_frame::Tuple;
 use line_release::Both;
-use line_settle::{Progress, settle_one};
+use line_settle::{Progress, settle_or_rest};
 use std::alloc::Global;
 use tcp_track::Took;
 
-/// Settles one connection, and notes its progress.
+/// Settles one connection, unless it was restarted in the event, and notes its progress.
 #[tactic(auto, using(std::proofs::lemmas::Map::Steps::set_value_same))]
 fn settle_entry(
     alloc: Global,
     both: &Both,
     table: &mut IndexMap<Tuple, Progress>,
+    is_restarted: bool,
     is_turn: bool,
     tooks: &[Took],
     out: &mut Frames,
@@ -33,28 +34,38 @@ fn settle_entry(
     requires { IsUntrimmed both.now.mine.now
         (progress_at table.old.entries both.now.tuple).edge }
     ensures progress { OnOk result (table.new.entries ≡ set_progress table.old.entries
-        both.now.tuple (settle_one (both_of both.now)
+        both.now.tuple (settle_or_rest is_restarted (both_of both.now)
         (progress_at table.old.entries both.now.tuple) is_turn tooks.now).progress) }
     ensures out { OnOk result (out.new ≡ out.old ++ map released_frame
-        (settle_one (both_of both.now) (progress_at table.old.entries both.now.tuple) is_turn
-        tooks.now).out) }
+        (settle_or_rest is_restarted (both_of both.now)
+        (progress_at table.old.entries both.now.tuple) is_turn tooks.now).out) }
     ensures err { OnErr result (Begins out.old out.new) }
     ensures after { OnOk result ((progress_at table.old.entries both.now.tuple).edge
-        ≤ (settle_one (both_of both.now) (progress_at table.old.entries both.now.tuple) is_turn
-        tooks.now).progress.edge) }
+        ≤ (settle_or_rest is_restarted (both_of both.now)
+        (progress_at table.old.entries both.now.tuple) is_turn tooks.now).progress.edge) }
 {
     match table.get_mut(&both.tuple) {
-        Some(progress) => settle_one(alloc, both, progress, is_turn, tooks, out),
+        Some(progress) => {
+            settle_or_rest(alloc, both, progress, is_restarted, is_turn, tooks, out)
+        }
         None => {
             let mut progress = Progress::new();
-            settle_one(alloc, both, &mut progress, is_turn, tooks, out)?;
+            settle_or_rest(
+                alloc,
+                both,
+                &mut progress,
+                is_restarted,
+                is_turn,
+                tooks,
+                out,
+            )?;
             add_progress(table, both.tuple, progress)
         }
     }
 }
 
-/// Settles one tuple, where it wasn't restarted in the event.
-#[tactic(auto, unfolding(crate::specs::Kept::settle_kept_tuple, crate::specs::Kept::settle_line))]
+/// Settles one tuple, where it has a line.
+#[tactic(auto, unfolding(crate::specs::Kept::settle_kept_tuple, crate::specs::Kept::settle_line, crate::specs::Kept::line_settled))]
 fn settle_tuple(
     alloc: Global,
     scene: &Scene,
@@ -70,21 +81,27 @@ fn settle_tuple(
     ensures err { OnErr result (Begins out.old out.new) }
     ensures untrimmed { OnOk result (AreUntrimmed scene.now.mine.now table.new.entries) }
 {
-    if is_restarted(scene, &tuple) {
-        return Ok(());
-    }
     match scene.mine.line(&tuple) {
         None => Ok(()),
         Some(line) => {
             let both = both_lines(scene, tuple, line);
-            settle_entry(alloc, &both, table, scene.is_turn, scene.tooks, out)?;
+            let restarted = is_restarted(scene, &tuple);
+            settle_entry(
+                alloc,
+                &both,
+                table,
+                restarted,
+                scene.is_turn,
+                scene.tooks,
+                out,
+            )?;
             Ok(())
         }
     }
 }
 
-/// Settles each connection in the order of the table, without those restarted in the event. No line
-/// is trimmed past its edge. After `NoMemory` the list begins with what it held.
+/// Settles each connection in the order of the table. Nothing goes out of those restarted in the
+/// event. No line is trimmed past its edge. After `NoMemory` the list begins with what it held.
 #[tactic(auto, unfolding(crate::specs::Kept::settle_kept))]
 pub fn settle_all(
     alloc: Global,
