@@ -212,7 +212,8 @@ no_syn_at : slice_get (places worked_start no_syn_steps) 0 ≡ Some no_syn_place
 unfolding no_syn_steps places
 no_syn_at = refl
 
-no_syn_breaks : (sent : List TcpFields) → IsStandingRefusal sent no_syn_place.segment ⊎ SymbolsStand sent no_syn_place → ⊥
+no_syn_breaks : (sent : List TcpFields) → IsStandingRefusal sent no_syn_place.segment ⊎ SymbolsStand sent no_syn_place
+    → ⊥
 no_syn_breaks sent (inl r) = true≢false (sym r.is_reset)
 no_syn_breaks sent (inr s) = true≢false (sym (ap (λ (n : Option ℕ). is_some n) s.number_is))
 
@@ -282,7 +283,8 @@ a_reset_kept_back h =
 unfoldable pub filled_syn_steps : List Step
 unfolding pair_log worked_start
 filled_syn_steps =
-    edit_at 6 (with_released (tcp (worked_segment 5000 0x12 (Some 1460)) digits ∷ [])) (pair_log worked_start opening_lines)
+    edit_at 6 (with_released (tcp (worked_segment 5000 0x12 (Some 1460)) digits ∷ []))
+    (pair_log worked_start opening_lines)
 
 abbrev filled_syn_place : Place
 filled_syn_place =
@@ -336,8 +338,8 @@ pub a_message_told_later : (nodes : Nodes) (out : OutFiles) → FilesPart worked
 a_message_told_later nodes out h =
     true≢false (sym due_there ∙ (sym (ap (λ (ms : List (Option Message)). is_told_at 1 ms) h.messages) ∙ told_nothing))
 
--- AN INBOX LOST AT A COMMIT: the secondary's next turn takes nothing. No part refuses it, for the log tells that turn so:
--- it is not the log of this schedule.
+-- AN INBOX LOST AT A COMMIT: the secondary's next turn takes nothing. No part refuses it, for the log tells that turn
+-- so: it is not the log of this schedule.
 abbrev pub inbox_lines : List Line
 inbox_lines =
     Client ∷ ToSecondary ∷ Ask ∷ ToSecondary ∷ ToSecondary ∷ ToSecondary ∷ ToSecondary ∷ Secondary 2 true 0 0 ∷ []

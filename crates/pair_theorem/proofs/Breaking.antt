@@ -1,5 +1,5 @@
--- The nine parts by name, and what it is that a log breaks one of them and no other. Of Prompt these are the two sentences
--- on symbols and acknowledgements: each other frame breaks the first, that exactly the settled frames go out.
+-- The nine parts by name, and what it is that a log breaks one of them and no other. Of Prompt these are the two
+-- sentences on symbols and acknowledgements: each other frame breaks the first, that exactly the settled frames go out.
 use Rattle.std.proofs.Common.{◌≡◌, ◌⊎◌, inl, inr, ℕ, ◌≤◌, ◌==◌, ◌||◌, nat_le, eqb-true, Bool, true, false, List, [], ◌∷◌, ◌++◌, Option, Some, slice_get, unwrap_or, refl, sym, ap, subst, ◌∙◌, true≢false, le-leb}
 use Rattle.std.proofs.lemmas.Bool.{both_ways, or_cases}
 use Rattle.std.specs.Prelude.{All, IsTrue}
@@ -105,7 +105,8 @@ stands_breaks a steps k p client number o x at plain c n carries test h =
 pub payload_breaks : (a : Start) (steps : List Step) (k : ℕ) (p : Place) → slice_get (places a steps) k ≡ Some p
     → is_judged p ≡ false → StandsPart a steps → ⊥
 payload_breaks a steps k p at test h =
-    both_ways (is_judged p) test (All_at (PlaceStands (run_segments a (entries steps))) (places a steps) k p h at).judged
+    both_ways (is_judged p) test
+    (All_at (PlaceStands (run_segments a (entries steps))) (places a steps) k p h at).judged
 
 -- ACKS is broken by one acknowledgement that is too great
 ack_breaks : (sent : List TcpFields) (p : Place) (client : ℕ) → p.client ≡ Some client
@@ -237,7 +238,8 @@ other_test p q b n e = by (or_cases (place_of q == place_of p) b e)
 
 -- a log that passes the tests of the other parts has these parts
 pub others_from : (p : PartName) (a : Start) (lines : List Line) (steps : List Step) → lines_of steps ≡ lines
-    → delivered_in steps ≡ delivered_due (events a steps) → passes_others p a steps ≡ true → (q : PartName) → (place_of q ≡ place_of p → ⊥) → Part q (told_log a lines steps)
+    → delivered_in steps ≡ delivered_due (events a steps) → passes_others p a steps ≡ true
+    → (q : PartName) → (place_of q ≡ place_of p → ⊥) → Part q (told_log a lines steps)
 unfolding passes_others
 others_from p a lines steps s d e q n =
     part_from q a lines steps s d (other_test p q (test_of q a steps) n

@@ -243,7 +243,8 @@ pub two_numbers_for_one_opening : BreaksOnly numbers_part (told_log worked_start
 unfolding told_log
 two_numbers_for_one_opening = record {
   broken = numbers_break worked_start numbers_steps numbers_differ;
-  others = others_from numbers_part worked_start again_lines numbers_steps numbers_lines numbers_delivered numbers_others;
+  others = others_from numbers_part worked_start again_lines numbers_steps numbers_lines numbers_delivered
+      numbers_others;
 }
 
 -- ACKS: an acknowledgement that is too great, in a segment that is not the last of its event
@@ -397,7 +398,8 @@ swapped_log =
 
 clock_part : (q : PartName) → (place_of q ≡ place_of files_part → ⊥)
     → Part q (told_log clock_start clock_lines clock_steps)
-clock_part q n = others_from files_part clock_start clock_lines clock_steps clock_lines_are clock_delivered clock_passes q n
+clock_part q n =
+    others_from files_part clock_start clock_lines clock_steps clock_lines_are clock_delivered clock_passes q n
 
 swapped_others : (q : PartName) → (place_of q ≡ place_of files_part → ⊥) → Part q swapped_log
 unfolding swapped_log told_log

@@ -1,5 +1,5 @@
--- What holds of the log of each start and each schedule: Log, Marks, both guests' turns, and that frames and messages are
--- those of the definitions.
+-- What holds of the log of each start and each schedule: Log, Marks, both guests' turns, and that frames and messages
+-- are those of the definitions.
 use Rattle.std.proofs.Common.{◌≡◌, ℕ, ◌+◌, ◌%◌, ◌^◌, List, [], ◌∷◌, ◌++◌, Bool, filter, flat_map, map, Option, None, Some, refl, sym, ap, ◌∙◌}
 use Rattle.std.proofs.Math.Nat.{mod-add-mod}
 use Rattle.std.proofs.lemmas.Grind.{fold-append}

@@ -6,6 +6,7 @@ use Rattle.inet_frame.specs.Counted.{tcp_in}
 use Rattle.settle_rules.specs.Release.{reply}
 use Rattle.state_wire.specs.Guest.{Kind}
 use Rattle.pair_theorem.specs.Checkpoint.{capture, next_capture}
+use Rattle.inet_frame.specs.declared.why.Why.{Why}
 use Rattle.frame_mirror.specs.declared.ingress.Entry.{Entry}
 use Rattle.frame_mirror.specs.declared.ingress.Entry.TheVariants as entry
 use Rattle.frame_mirror.specs.Accepted.{entry_of}
@@ -51,7 +52,13 @@ abbrev pub survivor_made : Kind → Past → ℕ → Bool → ℕ → ℕ → Ou
 survivor_made kind past d i b n =
     turn_survivor past (Secondary d i b n) (turn_from kind past.secondary past.secondary_inbox i (numbers_of d b n))
 
-pub record Cases (kind : Kind) (P : Claim) : Type 0 where
+-- a client event takes a frame of the stream: no report of the primary's stop is outstanding
+abbrev pub TakesFrame : List (List ℕ) → Past → List ℕ → Type 0
+TakesFrame stream past frame =
+    (slice_get stream past.next ≡ Some frame) × ((is_primary_stop past.stop && not past.is_reported) ≡ false)
+
+-- Each case has the tests that led to it.
+pub record Cases (kind : Kind) (stream : List (List ℕ)) (P : Claim) : Type 0 where
   pub idle : (past : Past) (x : Line) → P past x (silently past x Nothing None)
   pub primary_turn : (past : Past) (d : ℕ) (i : Bool) (b n : ℕ) → is_primary_stop past.stop ≡ false
       → past.awaits_ack ≡ false → P past (Primary d i b n) (primary_made kind past d i b n)
@@ -59,20 +66,30 @@ pub record Cases (kind : Kind) (P : Claim) : Type 0 where
       → secondary_releases past ≡ false → P past (Secondary d i b n) (secondary_made kind past d i b n)
   pub survivor_turn : (past : Past) (d : ℕ) (i : Bool) (b n : ℕ) → secondary_releases past ≡ true
       → P past (Secondary d i b n) (survivor_made kind past d i b n)
-  pub accepts : (past : Past) (w : Waiting) → w.index ≡ past.next → P past Client (accepted_outcome past w)
-  pub is_full : (past : Past) → P past Client (silently (passed_frame past) Client (Full past.next) None)
-  pub answers : (past : Past) (b : List ℕ)
+  pub accepts : (past : Past) (frame kept : List ℕ) → TakesFrame stream past frame → entry_of frame ≡ entry.Frame kept
+      → nat_le INBOX_ROOM (length (taking_inbox past)) ≡ false
+      → P past Client (accepted_outcome past (waiting_of past (look_at past (tcp_in kept)) kept))
+  pub is_full : (past : Past) (frame kept : List ℕ) → TakesFrame stream past frame → entry_of frame ≡ entry.Frame kept
+      → nat_le INBOX_ROOM (length (taking_inbox past)) ≡ true
+      → P past Client (silently (passed_frame past) Client (Full past.next) None)
+  pub answers : (past : Past) (frame b : List ℕ) → TakesFrame stream past frame → entry_of frame ≡ entry.Answer b
       → P past Client (quietly (passed_frame past) (step_with Client (Arp past.next) [] None (reply b ∷ [])))
-  pub drops : (past : Past) (why : ℕ) → P past Client (silently (passed_frame past) Client (Dropped past.next why) None)
-  pub loses : (past : Past) → P past Client (silently (passed_frame past) Client (Lost past.next) None)
+  pub drops : (past : Past) (frame : List ℕ) (why : Why) → TakesFrame stream past frame
+      → entry_of frame ≡ entry.Drop why
+      → P past Client (silently (passed_frame past) Client (Dropped past.next why.number) None)
+  pub loses : (past : Past) (frame : List ℕ) → slice_get stream past.next ≡ Some frame
+      → is_primary_stop past.stop ≡ true → past.is_reported ≡ false
+      → P past Client (silently (passed_frame past) Client (Lost past.next) None)
   pub secondary_hears : (past : Past) (m : Message) (ms : List Message) → past.to_secondary ≡ m ∷ ms
+      → is_secondary_stop past.stop ≡ false → past.is_reported ≡ false
       → P past ToSecondary (secondary_hears (record past { to_secondary = ms }) m)
   pub ignores : (past : Past) (m : Message) (ms : List Message) → past.to_primary ≡ m ∷ ms → is_ack_message m ≡ false
-      → past.awaits_ack ≡ true
+      → past.awaits_ack ≡ true → is_primary_stop past.stop ≡ false → past.is_reported ≡ false
       → P past ToPrimary
       (silently (record past { to_primary = ms }) ToPrimary (HeardBack (number_of m) past.sent_heard 0) (Some m))
   pub primary_hears : (past : Past) (m : Message) (ms : List Message) → past.to_primary ≡ m ∷ ms
-      → (past.awaits_ack && not (is_ack_message m)) ≡ false
+      → (past.awaits_ack && not (is_ack_message m)) ≡ false → is_primary_stop past.stop ≡ false
+      → past.is_reported ≡ false
       → P past ToPrimary (primary_hears (record past { to_primary = ms }) m)
   pub primary_stops : (past : Past)
       → P past StopPrimary (silently (record past { stop = primary_stop }) StopPrimary Zero None)
@@ -81,65 +98,73 @@ pub record Cases (kind : Kind) (P : Claim) : Type 0 where
   pub secondary_left : (past : Past) → is_primary_stop past.stop ≡ true → P past Report (secondary_survives past)
   pub primary_left : (past : Past) → is_primary_stop past.stop ≡ false
       → P past Report (outcome_with Report [] None Reported (primary_survives past))
-  pub asks : (past : Past) → past.awaits_ack ≡ false → P past Ask (asked_outcome past)
+  pub asks : (past : Past) → past.awaits_ack ≡ false → is_primary_stop past.stop ≡ false
+      → is_secondary_stop past.stop ≡ false → P past Ask (asked_outcome past)
 
-take_case : (kind : Kind) (P : Claim) → Cases kind P → (past : Past) (w : Waiting) → w.index ≡ past.next
-    → P past Client (take_frame past w)
+take_case : (kind : Kind) (stream : List (List ℕ)) (P : Claim) → Cases kind stream P → (past : Past)
+    (frame kept : List ℕ) → TakesFrame stream past frame → entry_of frame ≡ entry.Frame kept
+    → P past Client (take_frame past (waiting_of past (look_at past (tcp_in kept)) kept))
 unfolding take_frame
-take_case kind P h past w e =
+take_case kind stream P h past frame kept t e =
+    let w = waiting_of past (look_at past (tcp_in kept)) kept in
     cond_both (nat_le INBOX_ROOM (length (taking_inbox past)))
     (silently (passed_frame past) Client (Full past.next) None) (accepted_outcome past w) (P past Client)
-    (λ f. h.is_full past) (λ f. h.accepts past w e)
+    (λ f. h.is_full past frame kept t e f) (λ f. h.accepts past frame kept t e f)
 
-entry_case : (kind : Kind) (P : Claim) → Cases kind P → (past : Past) (entry : Entry)
-    → P past Client (client_entry past entry)
+entry_case : (kind : Kind) (stream : List (List ℕ)) (P : Claim) → Cases kind stream P → (past : Past) (frame : List ℕ)
+    (entry : Entry) → TakesFrame stream past frame → entry_of frame ≡ entry → P past Client (client_entry past entry)
 unfolding client_entry
-entry_case kind P h past (entry.Frame frame) =
-    take_case kind P h past (waiting_of past (look_at past (tcp_in frame)) frame) refl
-entry_case kind P h past (entry.Answer b) = h.answers past b
-entry_case kind P h past (entry.Drop w) = h.drops past w.number
+entry_case kind stream P h past frame (entry.Frame kept) t e = take_case kind stream P h past frame kept t e
+entry_case kind stream P h past frame (entry.Answer b) t e = h.answers past frame b t e
+entry_case kind stream P h past frame (entry.Drop w) t e = h.drops past frame w t e
 
-client_case : (kind : Kind) (P : Claim) → Cases kind P → (past : Past) (frame : Option (List ℕ))
-    → P past Client (client_event past frame)
+client_case : (kind : Kind) (stream : List (List ℕ)) (P : Claim) → Cases kind stream P → (past : Past)
+    (frame : Option (List ℕ)) → slice_get stream past.next ≡ frame → P past Client (client_event past frame)
 unfolding client_event
-client_case kind P h past None = h.idle past Client
-client_case kind P h past (Some frame) =
+client_case kind stream P h past None at = h.idle past Client
+client_case kind stream P h past (Some frame) at =
     cond_both (is_primary_stop past.stop && not past.is_reported)
     (silently (passed_frame past) Client (Lost past.next) None) (client_entry past (entry_of frame)) (P past Client)
-    (λ e. h.loses past) (λ e. entry_case kind P h past (entry_of frame))
+    (λ e. let parts = and_parts (is_primary_stop past.stop) (not past.is_reported) e in
+    h.loses past frame at parts.0 (not-true past.is_reported parts.1))
+    (λ e. entry_case kind stream P h past frame (entry_of frame) (at, e) refl)
 
-down_case : (kind : Kind) (P : Claim) → Cases kind P → (past : Past) (ms : List Message) → past.to_secondary ≡ ms
-    → P past ToSecondary (deliver_down past ms)
+down_case : (kind : Kind) (stream : List (List ℕ)) (P : Claim) → Cases kind stream P
+    → (past : Past) (ms : List Message) → past.to_secondary ≡ ms
+    → is_secondary_stop past.stop ≡ false → past.is_reported ≡ false → P past ToSecondary (deliver_down past ms)
 unfolding deliver_down
-down_case kind P h past [] e = h.idle past ToSecondary
-down_case kind P h past (m ∷ ms) e = h.secondary_hears past m ms e
+down_case kind stream P h past [] e running alone = h.idle past ToSecondary
+down_case kind stream P h past (m ∷ ms) e running alone = h.secondary_hears past m ms e running alone
 
-up_case : (kind : Kind) (P : Claim) → Cases kind P → (past : Past) (ms : List Message) → past.to_primary ≡ ms
-    → P past ToPrimary (deliver_up past ms)
+up_case : (kind : Kind) (stream : List (List ℕ)) (P : Claim) → Cases kind stream P
+    → (past : Past) (ms : List Message) → past.to_primary ≡ ms
+    → is_primary_stop past.stop ≡ false → past.is_reported ≡ false → P past ToPrimary (deliver_up past ms)
 unfolding deliver_up
-up_case kind P h past [] e = h.idle past ToPrimary
-up_case kind P h past (m ∷ ms) e =
+up_case kind stream P h past [] e running alone = h.idle past ToPrimary
+up_case kind stream P h past (m ∷ ms) e running alone =
     cond_both (past.awaits_ack && not (is_ack_message m))
     (silently (record past { to_primary = ms }) ToPrimary (HeardBack (number_of m) past.sent_heard 0) (Some m))
     (primary_hears (record past { to_primary = ms }) m) (P past ToPrimary)
-    (λ f. let parts =
-    and_parts past.awaits_ack (not (is_ack_message m)) f in h.ignores past m ms e (not-true (is_ack_message m) parts.1) parts.0)
-    (λ f. h.primary_hears past m ms e f)
+    (λ f. let parts = and_parts past.awaits_ack (not (is_ack_message m)) f in
+    h.ignores past m ms e (not-true (is_ack_message m) parts.1) parts.0 running alone)
+    (λ f. h.primary_hears past m ms e f running alone)
 
-primary_case : (kind : Kind) (P : Claim) → Cases kind P → (past : Past) (d : ℕ) (i : Bool) (b n : ℕ)
+primary_case : (kind : Kind) (stream : List (List ℕ)) (P : Claim) → Cases kind stream P
+    → (past : Past) (d : ℕ) (i : Bool) (b n : ℕ)
     → P past (Primary d i b n) (primary_event kind past (Primary d i b n) i (numbers_of d b n))
 unfolding primary_event
-primary_case kind P h past d i b n =
+primary_case kind stream P h past d i b n =
     cond_both (is_primary_stop past.stop || past.awaits_ack) (silently past (Primary d i b n) Nothing None)
     (primary_made kind past d i b n) (P past (Primary d i b n))
     (λ e. h.idle past (Primary d i b n))
     (λ e. let parts =
     or_parts (is_primary_stop past.stop) past.awaits_ack e in h.primary_turn past d i b n parts.0 parts.1)
 
-secondary_case : (kind : Kind) (P : Claim) → Cases kind P → (past : Past) (d : ℕ) (i : Bool) (b n : ℕ)
+secondary_case : (kind : Kind) (stream : List (List ℕ)) (P : Claim) → Cases kind stream P
+    → (past : Past) (d : ℕ) (i : Bool) (b n : ℕ)
     → P past (Secondary d i b n) (secondary_event kind past (Secondary d i b n) i (numbers_of d b n))
 unfolding secondary_event
-secondary_case kind P h past d i b n =
+secondary_case kind stream P h past d i b n =
     cond_both (is_secondary_stop past.stop) (silently past (Secondary d i b n) Nothing None)
     (if secondary_releases past then survivor_made kind past d i b n else secondary_made kind past d i b n)
     (P past (Secondary d i b n))
@@ -147,38 +172,46 @@ secondary_case kind P h past d i b n =
     (λ e. cond_both (secondary_releases past) (survivor_made kind past d i b n) (secondary_made kind past d i b n)
     (P past (Secondary d i b n)) (λ f. h.survivor_turn past d i b n f) (λ f. h.secondary_turn past d i b n e f))
 
-report_case : (kind : Kind) (P : Claim) → Cases kind P → (past : Past) → P past Report (report_event past)
+report_case : (kind : Kind) (stream : List (List ℕ)) (P : Claim) → Cases kind stream P
+    → (past : Past) → P past Report (report_event past)
 unfolding report_event
-report_case kind P h past =
+report_case kind stream P h past =
     cond_both (is_primary_stop past.stop) (secondary_survives past)
     (outcome_with Report [] None Reported (primary_survives past)) (P past Report)
     (λ e. h.secondary_left past e) (λ e. h.primary_left past e)
 
-ask_case : (kind : Kind) (P : Claim) → Cases kind P → (past : Past) → P past Ask (ask_event past)
+ask_case : (kind : Kind) (stream : List (List ℕ)) (P : Claim) → Cases kind stream P
+    → (past : Past) → P past Ask (ask_event past)
 unfolding ask_event
-ask_case kind P h past =
+ask_case kind stream P h past =
     cond_both (past.awaits_ack || (is_primary_stop past.stop || is_secondary_stop past.stop))
     (silently past Ask Nothing None)
     (asked_outcome past) (P past Ask)
     (λ e. h.idle past Ask)
-    (λ e. h.asks past (or_parts past.awaits_ack (is_primary_stop past.stop || is_secondary_stop past.stop) e).0)
+    (λ e. let outer = or_parts past.awaits_ack (is_primary_stop past.stop || is_secondary_stop past.stop) e in
+    let inner = or_parts (is_primary_stop past.stop) (is_secondary_stop past.stop) outer.1 in
+    h.asks past outer.0 inner.0 inner.1)
 
 -- every event
-pub each_case : (kind : Kind) (stream : List (List ℕ)) (P : Claim) → Cases kind P → (past : Past) (x : Line)
+pub each_case : (kind : Kind) (stream : List (List ℕ)) (P : Claim) → Cases kind stream P → (past : Past) (x : Line)
     → P past x (outcome_of kind stream past x)
 unfolding outcome_of
-each_case kind stream P h past (Primary d i b n) = primary_case kind P h past d i b n
-each_case kind stream P h past (Secondary d i b n) = secondary_case kind P h past d i b n
-each_case kind stream P h past Client = client_case kind P h past (slice_get stream past.next)
+each_case kind stream P h past (Primary d i b n) = primary_case kind stream P h past d i b n
+each_case kind stream P h past (Secondary d i b n) = secondary_case kind stream P h past d i b n
+each_case kind stream P h past Client = client_case kind stream P h past (slice_get stream past.next) refl
 each_case kind stream P h past ToSecondary =
     cond_both (is_secondary_stop past.stop || past.is_reported) (silently past ToSecondary Nothing None)
     (deliver_down past past.to_secondary) (P past ToSecondary)
-    (λ e. h.idle past ToSecondary) (λ e. down_case kind P h past past.to_secondary refl)
+    (λ e. h.idle past ToSecondary)
+    (λ e. let parts = or_parts (is_secondary_stop past.stop) past.is_reported e in
+    down_case kind stream P h past past.to_secondary refl parts.0 parts.1)
 each_case kind stream P h past ToPrimary =
     cond_both (is_primary_stop past.stop || past.is_reported) (silently past ToPrimary Nothing None)
     (deliver_up past past.to_primary) (P past ToPrimary)
-    (λ e. h.idle past ToPrimary) (λ e. up_case kind P h past past.to_primary refl)
+    (λ e. h.idle past ToPrimary)
+    (λ e. let parts = or_parts (is_primary_stop past.stop) past.is_reported e in
+    up_case kind stream P h past past.to_primary refl parts.0 parts.1)
 each_case kind stream P h past StopPrimary = h.primary_stops past
 each_case kind stream P h past StopSecondary = h.secondary_stops past
-each_case kind stream P h past Report = report_case kind P h past
-each_case kind stream P h past Ask = ask_case kind P h past
+each_case kind stream P h past Report = report_case kind stream P h past
+each_case kind stream P h past Ask = ask_case kind stream P h past

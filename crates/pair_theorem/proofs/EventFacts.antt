@@ -6,7 +6,8 @@ use Rattle.state_wire.specs.Guest.{Kind}
 use Rattle.pair_theorem.specs.Checkpoint.{capture}
 use Rattle.frame_mirror.specs.declared.ring.Waiting.{Waiting}
 use Rattle.pair_theorem.specs.ClientFrames.{trims_by}
-use Rattle.pair_theorem.specs.Events.{hear_end, hear_frame, hear_number, is_ack_message, is_full, numbers_of, passed_frame, Ended, accept_by, ack_ended, ended_by, known_ended, mark_cause, outcome_of, outcome_with, primary_ended, primary_hears, primary_survives, turn_primary, secondary_hears, secondary_survives, turn_secondary, sent_ended, settle_event, survivor_ended, turn_survivor}
+use Rattle.inet_frame.specs.Counted.{tcp_in}
+use Rattle.pair_theorem.specs.Events.{look_at, waiting_of, hear_end, hear_frame, hear_number, is_ack_message, is_full, numbers_of, passed_frame, Ended, accept_by, ack_ended, ended_by, known_ended, mark_cause, outcome_of, outcome_with, primary_ended, primary_hears, primary_survives, turn_primary, secondary_hears, secondary_survives, turn_secondary, sent_ended, settle_event, survivor_ended, turn_survivor}
 use Rattle.pair_theorem.specs.GuestTurns.{TurnMade, turn_from}
 use Rattle.replay_log.specs.declared.lines.Line.{Line}
 use Rattle.replay_log.specs.declared.lines.Line.TheVariants.{Primary, Secondary, Client, ToSecondary, ToPrimary, StopPrimary, StopSecondary, Report, Ask}
@@ -342,8 +343,8 @@ answered_facts past b = record {
   secondary_turned = refl;
 }
 
-facts : (kind : Kind) → Cases kind EventFacts
-facts kind = record {
+facts : (kind : Kind) (stream : List (List ℕ)) → Cases kind stream EventFacts
+facts kind stream = record {
   idle = idle_facts;
   primary_turn =
       λ past d i b n e f. primary_facts kind past d i b n
@@ -355,16 +356,22 @@ facts kind = record {
       λ past d i b n e. survivor_facts past d i b n
       (turn_from kind past.secondary past.secondary_inbox i (numbers_of d b n));
   accepts =
-      λ past w e. quiet_facts past (accept_by (is_primary_stop past.stop) past w (trims_by w)) Client
+      λ past frame kept t e f. let w = waiting_of past (look_at past (tcp_in kept)) kept in
+      quiet_facts past (accept_by (is_primary_stop past.stop) past w (trims_by w)) Client
       (Accepted past.next w.seen w.trim 0) (accepts_alike (is_primary_stop past.stop) past w) refl refl refl;
-  is_full = λ past. quiet_facts past (passed_frame past) Client (Full past.next) (refl, refl, refl) refl refl refl;
-  answers = answered_facts;
+  is_full =
+      λ past frame kept t e f. quiet_facts past (passed_frame past) Client (Full past.next) (refl, refl, refl) refl
+      refl refl;
+  answers = λ past frame b t e. answered_facts past b;
   drops =
-      λ past why. quiet_facts past (passed_frame past) Client (Dropped past.next why) (refl, refl, refl) refl refl refl;
-  loses = λ past. quiet_facts past (passed_frame past) Client (Lost past.next) (refl, refl, refl) refl refl refl;
-  secondary_hears = λ past m ms e. down_facts past m ms;
-  ignores = λ past m ms e f g. ignored_facts past m ms f;
-  primary_hears = λ past m ms e f. up_facts past m ms;
+      λ past frame why t e. quiet_facts past (passed_frame past) Client (Dropped past.next why.number)
+      (refl, refl, refl) refl refl refl;
+  loses =
+      λ past frame t e f. quiet_facts past (passed_frame past) Client (Lost past.next) (refl, refl, refl) refl refl
+      refl;
+  secondary_hears = λ past m ms e f g. down_facts past m ms;
+  ignores = λ past m ms e f g running alone. ignored_facts past m ms f;
+  primary_hears = λ past m ms e f running alone. up_facts past m ms;
   primary_stops =
       λ past. quiet_facts past (record past { stop = primary_stop }) StopPrimary Zero (refl, refl, refl) refl refl refl;
   secondary_stops =
@@ -372,10 +379,10 @@ facts kind = record {
       refl;
   secondary_left = λ past e. survive_facts past;
   primary_left = λ past e. left_facts past;
-  asks = λ past e. asked_facts past;
+  asks = λ past e f g. asked_facts past;
 }
 
 -- of every event, after any past
 pub event_facts : (kind : Kind) (stream : List (List ℕ)) (past : Past) (x : Line)
     → EventFacts past x (outcome_of kind stream past x)
-event_facts kind stream past x = each_case kind stream EventFacts (facts kind) past x
+event_facts kind stream past x = each_case kind stream EventFacts (facts kind stream) past x

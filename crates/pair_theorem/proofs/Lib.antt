@@ -14,6 +14,8 @@ pub mod PartTests
 pub mod Breaking
 pub mod BrokenLogs
 pub mod WorkedParts
+pub mod Unfinished
+pub mod SplicingRows
 pub mod NextStartRow
 pub mod CheckpointRows
 pub mod PrimaryRunsRow

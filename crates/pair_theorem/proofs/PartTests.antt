@@ -178,7 +178,7 @@ stood sent p (Some client) (Some number) e f h =
       reset = λ r. reset_if sent p client parts.0 r;
     }
 
-stands_if : (sent : List TcpFields) (p : Place) → place_stands sent p ≡ true → PlaceStands sent p
+pub stands_if : (sent : List TcpFields) (p : Place) → place_stands sent p ≡ true → PlaceStands sent p
 unfolding place_stands
 stands_if sent p e =
     record { judged = parts.0; stands = by (or_cases (is_refusal_shown sent p.segment) _ parts.1) }
@@ -220,7 +220,7 @@ acked sent p (Some client) e h = record {
   within = leb-true (distance client p.segment.ack) (acked_in sent p.segment.tuple client) h;
 }
 
-acks_if : (sent : List TcpFields) (p : Place) → place_acks sent p ≡ true → PlaceAcks sent p
+pub acks_if : (sent : List TcpFields) (p : Place) → place_acks sent p ≡ true → PlaceAcks sent p
 unfolding place_acks
 acks_if sent p e = by (or_cases (is_refusal_shown sent p.segment) (acked_at sent p p.client) e)
   where

@@ -12,4 +12,5 @@ pub mod Places
 pub mod FrameParts
 pub mod LogParts
 pub mod Starts
+pub mod Splicing
 pub mod Theorem

@@ -231,8 +231,8 @@ files_of steps nodes =
     }
 
 -- The survivor is in the run's last state, and memory and disk written are its own. The log, the
--- released frames and the delivered messages are written in order; and in each event that message is
--- delivered which the definitions give.
+-- released frames and the delivered messages are written in order; and in each event that message
+-- is delivered which the definitions give.
 pub record FilesPart (a : Start) (steps : List Step) (nodes : Nodes)
     (files : OutFiles) : Type 0 where
   pub state : survivor_state (entries steps) nodes ≡ (the_run a (entries steps)).state

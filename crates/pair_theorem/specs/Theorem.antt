@@ -29,9 +29,9 @@ pub record IsOneRun (a : Start) (lines : List Line) (steps : List Step) (nodes :
 abbrev pub IsDetermined : Start → List Line → List Step → Type 0
 IsDetermined a lines steps = steps ≡ pair_log a lines
 
--- THE THEOREM. For every schedule the log is determined, each guest made the turns that the log says,
--- and the secondary's guest is in the state of its own run, which it was told in messages; for every
--- schedule with at most one stop the log names one run.
+-- THE THEOREM. For every schedule the log is determined, each guest made the turns that the log
+-- says, and the secondary's guest is in the state of its own run, which it was told in messages;
+-- for every schedule with at most one stop the log names one run.
 pub record PairTheorem (a : Start) (lines : List Line) (steps : List Step) (nodes : Nodes)
     (out : OutFiles) : Type 0 where
   pub determined : IsDetermined a lines steps

@@ -1,7 +1,7 @@
 //! What is proved of the log of every start and every schedule. Each law is the contract of a call
 //! that does nothing.
 
-ghost use Rattle.std.specs.Prelude.{◌≡◌, ℕ, [], List};
+ghost use Rattle.std.specs.Prelude.{◌≡◌, ℕ, [], All, List};
 ghost use Rattle.replay_log.specs.declared.lines.Line.{Line};
 ghost use Rattle.replay_log.specs.declared.records.Record.{Record};
 ghost use Rattle.splice_run.specs.Runs.{run_turns};
@@ -11,6 +11,7 @@ ghost use Rattle.pair_theorem.specs.History.{pair_log};
 ghost use Rattle.pair_theorem.specs.LogParts.{GuestsPart, LogPart, MarksPart, nodes_at};
 ghost use Rattle.pair_theorem.specs.Past.{Start, boot};
 ghost use Rattle.pair_theorem.specs.Places.{delivered_due, delivered_in, events, released_due, released_in};
+ghost use Rattle.pair_theorem.specs.Splicing.{ChangesNothing};
 ghost use Rattle.pair_theorem.specs.Theorem.{FrontsAreLogs};
 ghost use Rattle.pair_theorem.specs.TheRun.{the_run};
 
@@ -44,4 +45,11 @@ pub fn frames_and_messages_are_due()
 #[tactic(auto, using(crate::proofs::EachLog::fronts_are))]
 pub fn fronts_are_logs()
     ensures { FrontsAreLogs }
+{}
+
+/// A checkpoint of which the End was not heard changes neither the secondary's guest, lines, inbox
+/// nor numbers: no message of it does, and the report that drops it does not.
+#[tactic(auto, using(crate::proofs::Unfinished::unfinished_changes_nothing))]
+pub fn unfinished_checkpoints_change_nothing()
+    ensures { (a : Start) (lines : List Line) → All ChangesNothing (events a (pair_log a lines)) }
 {}

@@ -12,4 +12,5 @@ mod law;
 
 pub use law::{
     boot_runs_the_single_run, frames_and_messages_are_due, fronts_are_logs, parts_hold_of_each_log,
+    unfinished_checkpoints_change_nothing,
 };
