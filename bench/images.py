@@ -116,22 +116,24 @@ STORES = loop(
     ],
 )
 
-ALU = loop(
-    [addi(1, 0, 7), addi(2, 0, 3)],
-    [
-        add(3, 3, 1),
-        xor(4, 4, 3),
-        sub(5, 4, 2),
-        sll(6, 5, 2),
-        or_(7, 6, 1),
-        and_(8, 7, 4),
-        sltu(9, 8, 3),
-        slli(10, 9, 5),
-        mul(11, 10, 3),
-        sltiu(12, 11, 100),
-        addi(13, 13, 1),
-    ],
-)
+ROWS = [
+    add(3, 3, 1),
+    xor(4, 4, 3),
+    sub(5, 4, 2),
+    sll(6, 5, 2),
+    or_(7, 6, 1),
+    and_(8, 7, 4),
+    sltu(9, 8, 3),
+    slli(10, 9, 5),
+    mul(11, 10, 3),
+    sltiu(12, 11, 100),
+    addi(13, 13, 1),
+]
+
+ALU = loop([addi(1, 0, 7), addi(2, 0, 3)], ROWS)
+
+# the same with MIE of mstatus set, and no interrupt that comes
+INTERRUPTS_ON = loop([csr(6, 0, 0x300, 8), addi(1, 0, 7), addi(2, 0, 3)], ROWS)
 
 LOADS = loop(
     [lui(1, 0x80000)],
@@ -196,6 +198,7 @@ LOOPS = {
     "timer_poll": TIMER_POLL,
     "stores": STORES,
     "alu": ALU,
+    "interrupts_on": INTERRUPTS_ON,
     "loads": LOADS,
     "amo": AMO,
     "csr": CSR,

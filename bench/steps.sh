@@ -1,5 +1,5 @@
 #!/usr/bin/env bash
-# Times `colo replay` on eleven loops, and prints of each how many million steps it makes in a second, and,
+# Times `colo replay` on twelve loops, and prints of each how many million steps it makes in a second, and,
 # where valgrind is there, how many x86 instructions a step takes. There is no bar.
 # COLO names the program `colo`, if it is not the one built in crates/colo. BEFORE names another one to be
 # run beside it, as that of the commit before: `git worktree add ../before HEAD~1`, then `rt run` in its
