@@ -4,13 +4,10 @@
 //! `page` has its number, `disk` the first sector and how many bytes come, `line` flags, the
 //! connection's number and base, and `bytes` how many there are.
 
-ghost use Rattle.std.specs.Prelude.{◌≡◌, true};
-ghost use Rattle.kept_checkpoint.specs.Kept.{HasPageSize};
-
+use crate::apart::{Apart, Kept};
 use colo_base::Contents;
 use colo_wire::Message;
 use inet_frame::Tuple;
-use kept_checkpoint::{KeptCheckpoint, Tables};
 use std::alloc::Global;
 use std::process::Abort;
 use std::str::SplitWhitespace;
@@ -18,7 +15,7 @@ use std::test::Fail;
 use worked_frames::ACK_5004;
 
 /// The connection of 10.0.2.2, port 40000, to port 7.
-const TUPLE: Tuple = Tuple {
+pub const TUPLE: Tuple = Tuple {
     addr: 0x0A00_0202,
     port: 40000,
     guest: 7,
@@ -88,36 +85,21 @@ fn message(alloc: Global, text: &str) -> Result<Message, Fail> {
     }
 }
 
-/// Whether a page has its size.
-fn is_sized(message: &Message) -> bool
-    ensures { result ≡ true → HasPageSize message.now }
-{
-    match message {
-        Message::Page { bytes, .. } => bytes.as_slice().len() == 4096,
-        _ => true,
-    }
-}
-
-/// Keeps a message, where it fits, and says whether it did.
-fn hear(kept: &mut KeptCheckpoint, message: &Message) -> Result<bool, Fail> {
-    if kept.fits(message) && is_sized(message) {
-        kept.keep(message)?;
-        Ok(true)
-    } else {
-        Ok(false)
-    }
-}
-
 /// Hears the messages of a script, and asserts of each whether it fits.
-fn play(rt: &(impl Abort + AllocGlobal), script: &str) -> Result<Tables, Fail> {
-    let alloc = rt.alloc();
-    let mut kept = KeptCheckpoint::new(alloc, zeros(alloc, 8)?, 2, 3)?;
+fn play<K: Kept>(rt: &(impl Abort + AllocGlobal), kept: &mut K, script: &str) -> Result<(), Fail> {
     for line in script.lines() {
         let (text, answer) = line.split_once(" : ").ok_or("no answer")?;
-        let fits = hear(&mut kept, &message(alloc, text)?)?;
+        let fits = kept
+            .hear(&message(rt.alloc(), text)?)
+            .ok_or("out of memory")?;
         assert_eq!(rt; if fits { "yes" } else { "no" }, answer, "{line}");
     }
-    Ok(kept.close()?)
+    Ok(())
+}
+
+/// What is kept for a guest with two pages and three sectors.
+fn two_pages(alloc: Global) -> Result<Apart, Fail> {
+    Ok(Apart::new(alloc, zeros(alloc, 8)?)?)
 }
 
 /// The flag 1 is of a line that is opened, and 8 of one that ends; 2147483647 is 2^31 - 1. Bytes
@@ -159,17 +141,21 @@ bytes 2 : yes
 
 #[test]
 fn what_has_a_place_fits(rt: HostRuntime) -> Result<(), Fail> {
-    let tables = play(&rt, FITS)?;
-    assert_eq!(rt; tables.inbox.len(), 1);
+    let mut kept = two_pages(rt.alloc())?;
+    play(&rt, &mut kept, FITS)?;
+    let whole = kept.close().ok_or("out of memory")?;
+    assert_eq!(rt; whole.frames, 1);
     Ok(())
 }
 
 #[test]
 fn the_last_line_and_the_first_number_are_kept(rt: HostRuntime) -> Result<(), Fail> {
-    let tables = play(&rt, LINES)?;
-    assert_eq!(rt; tables.lines.len(), 1);
-    assert_eq!(rt; tables.lines.line(&TUPLE).ok_or("no line")?.end(), 3);
-    assert_eq!(rt; tables.numbers.number(&TUPLE, 1000), Some(5000));
-    assert_eq!(rt; tables.inbox.len(), 1);
+    let mut kept = two_pages(rt.alloc())?;
+    play(&rt, &mut kept, LINES)?;
+    let whole = kept.close().ok_or("out of memory")?;
+    assert_eq!(rt; whole.lines, 1);
+    assert_eq!(rt; whole.end, Some(3));
+    assert_eq!(rt; whole.number, Some(5000));
+    assert_eq!(rt; whole.frames, 1);
     Ok(())
 }

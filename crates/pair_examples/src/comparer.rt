@@ -12,16 +12,15 @@
 //! - `turns COUNT`: so many turns in which nothing happens;
 //! - `out K SEGMENT`: the frame K that went out at the last end of an event;
 //! - `client ACK TRIM`: a client's acknowledgement, and how far it trims;
-//! - `captured` and `acknowledged`: a checkpoint's.
+//! - `captured` and `acknowledged`: a checkpoint's;
+//! - `alone`: the other node stopped;
+//! - `survive FRAMES`: the node becomes the survivor with its own lines, and how many frames go out;
+//! - `line PORT BASE END` and `number PORT CLIENT NUMBER`: where an own line begins and ends, and a
+//!   number that is kept.
 
-use colo_base::{Frames, NoMemory};
-use inet_build::{Segment, segment};
-use inet_frame::{Seen, Tuple, parse};
-use out_compare::{Compare, Need};
-use std::alloc::Global;
+use crate::exchange::{Exchange, Pair, Sent};
+use crate::words::{cut, number};
 use std::process::Abort;
-use std::test::Fail;
-use tcp_track::Opening;
 use worked_frames::{ACK_5004, ACK_5012, SYN};
 
 /// Both guests opened, and the SYN went out once its number was known.
@@ -187,6 +186,46 @@ turns 255
 turn 0 wait 40000
 ";
 
+/// The survivor's guest opened again with 9000, and its client knows it under 5000. Six bytes, of
+/// which the client has three, and the last one with FIN; then a reset at the end, a refusal of
+/// another client, and one on another connection, none of which the other guest sent.
+const SURVIVOR: &str = "\
+own 40000 data 9001 1001 4096 abcdef
+other 40000 data 9001 1001 4096 abcd
+event 1
+out 0 40000 data 5001 1001 4096 abcd
+client 5004 4
+own 40000 end 9007 1001 4096 g
+own 40000 reset 9009 1001 4096
+own 40000 reset 0 2001 0
+own 40001 reset 0 3001 0
+line 40000 4 9
+number 40000 1000 5000
+survive 5
+out 0 40000 syn 5000 1001 4096
+out 1 40000 end 5004 1001 4096 defg
+out 2 40000 reset 5009 1001 4096
+out 3 40000 reset 0 2001 0
+out 4 40001 reset 0 3001 0
+line 40000 4 9
+number 40000 1000 5000
+turn 0
+";
+
+/// The other node stops after 255 turns without its guest's bytes, and before it has the number of
+/// another connection.
+const ALONE: &str = "\
+own 40000 data 5001 1001 4096 abc
+own 40001 syn 7000 1001 4096
+turns 255
+alone
+turn 2
+out 0 40000 data 5001 1001 4096 abc
+out 1 40001 syn 7000 1001 4096
+number 40001 1000 7000
+turns 300
+";
+
 fn flags_of(kind: &str) -> u8 {
     match kind {
         "syn" => 0x12,
@@ -198,233 +237,147 @@ fn flags_of(kind: &str) -> u8 {
     }
 }
 
-/// A word of a line, which may lack it.
-fn word<'a>(words: &[&'a str], k: usize) -> &'a str {
-    words.get(k).copied().unwrap_or("")
+fn short(word: &str) -> u16 {
+    u16::try_from(number(word)).unwrap_or(0)
 }
 
-/// A number of a line, 0 where it is left out.
-fn number(words: &[&str], k: usize) -> u32 {
-    word(words, k).parse::<u32>().unwrap_or(0)
-}
-
-fn short(words: &[&str], k: usize) -> u16 {
-    word(words, k).parse::<u16>().unwrap_or(0)
-}
-
-fn tuple(port: u16) -> Tuple {
-    Tuple {
-        addr: 0x0A00_0202,
-        port,
-        guest: 7,
+/// The segment that words say.
+fn segment(words: &str) -> Sent<'_> {
+    let (port, words) = cut(words);
+    let (kind, words) = cut(words);
+    let (seq, words) = cut(words);
+    let (ack, words) = cut(words);
+    let (window, word) = cut(words);
+    Sent {
+        port: short(port),
+        flags: flags_of(kind),
+        seq: number(seq),
+        ack: number(ack),
+        window: short(window),
+        word,
     }
 }
 
-/// The fields of the segment whose words begin at `k`.
-fn fields(words: &[&str], k: usize) -> Segment {
-    let flags = flags_of(word(words, k.saturating_add(1)));
-    Segment {
-        dst_mac: [0x52, 0x54, 0x00, 0xAA, 0x00, 0x01],
-        tuple: tuple(short(words, k)),
-        seq: number(words, k.saturating_add(2)),
-        ack: number(words, k.saturating_add(3)),
-        flags,
-        window: short(words, k.saturating_add(4)),
-        mss: if flags == 0x12 { Some(1460) } else { None },
+/// A port and two numbers.
+fn numbers(words: &str) -> (u16, u32, u32) {
+    let (port, words) = cut(words);
+    let (first, second) = cut(words);
+    (short(port), number(first), number(second))
+}
+
+/// The end of an event: how many frames go out, and why a checkpoint starts.
+fn is_end<P: Pair>(pair: &mut P, turn: bool, words: &str) -> bool {
+    let (frames, words) = cut(words);
+    let (word, words) = cut(words);
+    let (port, offset) = cut(words);
+    match pair.end(turn) {
+        Some(why) => {
+            why.word == word
+                && why.port == short(port)
+                && why.offset == number(offset)
+                && pair.released() == usize::from(short(frames))
+        }
+        None => false,
     }
-}
-
-/// The bytes of a word; `long` means 536 of them.
-fn payload(alloc: Global, word: &str) -> Result<Vec<u8>, NoMemory> {
-    if word == "long" {
-        return Ok(vec![in alloc; b'a'; 536]?);
-    }
-    let mut bytes = Vec::new(alloc);
-    bytes.extend_from_slice(word.as_bytes())?;
-    Ok(bytes)
-}
-
-/// The segment whose words begin at `k`.
-fn frame(alloc: Global, words: &[&str], k: usize) -> Result<Vec<u8>, NoMemory> {
-    let bytes = payload(alloc, word(words, k.saturating_add(5)))?;
-    let short = &bytes[..bytes.len().min(536)];
-    Ok(segment(alloc, &fields(words, k), short)?)
-}
-
-/// Why a checkpoint starts, as a line's words say it.
-fn words_of(need: Need) -> (&'static str, u16, u32) {
-    match need {
-        Need::Nothing => ("", 0, 0),
-        Need::Differ { tuple, offset } => ("differ", tuple.port, offset),
-        Need::Restart { tuple } => ("restart", tuple.port, 0),
-        Need::Wait { tuple } => ("wait", tuple.port, 0),
-    }
-}
-
-fn is_need(need: Need, words: &[&str]) -> bool {
-    let (why, port, offset) = words_of(need);
-    why == word(words, 2) && port == short(words, 3) && offset == number(words, 4)
-}
-
-fn own(alloc: Global, compare: &mut Compare, words: &[&str]) -> Result<bool, NoMemory> {
-    let frame = frame(alloc, words, 1)?;
-    let _ = compare.primary(&frame)?;
-    Ok(true)
-}
-
-fn other(alloc: Global, compare: &mut Compare, words: &[&str]) -> Result<bool, NoMemory> {
-    let frame = frame(alloc, words, 1)?;
-    let _ = compare.secondary(&frame)?;
-    Ok(true)
-}
-
-fn known(compare: &mut Compare, words: &[&str]) -> bool {
-    compare.known(&tuple(short(words, 1)), number(words, 2), number(words, 3));
-    true
-}
-
-/// The end of an event; `out` is what went out in it.
-fn end(
-    compare: &mut Compare,
-    turn: bool,
-    words: &[&str],
-    out: &mut Frames,
-) -> Result<bool, NoMemory> {
-    let need = compare.settle(turn, out)?;
-    Ok(is_need(need, words) && out.len() == usize::from(short(words, 1)))
-}
-
-fn is_out(alloc: Global, words: &[&str], out: &Frames) -> Result<bool, NoMemory> {
-    let wanted = frame(alloc, words, 2)?;
-    Ok(out.get(usize::from(short(words, 1))) == Some(wanted.as_slice()))
 }
 
 /// So many turns in which nothing happens.
-fn turns(compare: &mut Compare, words: &[&str], out: &mut Frames) -> Result<bool, NoMemory> {
-    for _ in 0..short(words, 1) {
-        if compare.settle(true, out)? != Need::Nothing {
-            return Ok(false);
+fn are_quiet<P: Pair>(pair: &mut P, turns: u16) -> bool {
+    for _ in 0..turns {
+        if !is_end(pair, true, "0") {
+            return false;
         }
     }
-    Ok(out.len() == 0)
-}
-
-fn client(compare: &mut Compare, words: &[&str]) -> bool {
-    let frame = if number(words, 1) == 5004 {
-        &ACK_5004
-    } else {
-        &ACK_5012
-    };
-    let Seen::Tcp(view) = parse(frame) else {
-        return false;
-    };
-    let seen = Opening {
-        client: 1000,
-        own: 5000,
-    };
-    compare.client(&view) == (Some(seen), number(words, 2))
-}
-
-fn captured(compare: &mut Compare) -> bool {
-    compare.captured();
     true
 }
 
-fn acknowledged(compare: &mut Compare) -> Result<bool, NoMemory> {
-    compare.acknowledged()?;
-    Ok(true)
+fn is_out<P: Pair>(pair: &P, words: &str) -> bool {
+    let (k, words) = cut(words);
+    pair.is_released(usize::from(short(k)), &segment(words))
 }
 
-/// Whether a step is answered so; what went out at the last end of an event is in `out`.
-fn answers(
-    alloc: Global,
-    compare: &mut Compare,
-    words: &[&str],
-    out: &mut Frames,
-) -> Result<bool, NoMemory> {
-    match word(words, 0) {
-        "own" => own(alloc, compare, words),
-        "other" => other(alloc, compare, words),
-        "known" => Ok(known(compare, words)),
-        "turn" => {
-            *out = Frames::new(alloc);
-            end(compare, true, words, out)
-        }
-        "event" => {
-            *out = Frames::new(alloc);
-            end(compare, false, words, out)
-        }
-        "turns" => {
-            *out = Frames::new(alloc);
-            turns(compare, words, out)
-        }
-        "client" => Ok(client(compare, words)),
-        "out" => is_out(alloc, words, out),
-        "captured" => Ok(captured(compare)),
-        "acknowledged" => acknowledged(compare),
-        _ => Ok(false),
+fn is_client<P: Pair>(pair: &mut P, words: &str) -> bool {
+    let (ack, trim) = cut(words);
+    let frame = if ack == "5004" { &ACK_5004 } else { &ACK_5012 };
+    pair.trim(frame) == Some(number(trim))
+}
+
+fn is_line<P: Pair>(pair: &P, words: &str) -> bool {
+    let (port, base, end) = numbers(words);
+    pair.line(port) == Some((base, end))
+}
+
+fn is_number<P: Pair>(pair: &P, words: &str) -> bool {
+    let (port, client, number) = numbers(words);
+    pair.number(port, client) == Some(number)
+}
+
+fn know<P: Pair>(pair: &mut P, words: &str) -> bool {
+    let (port, client, number) = numbers(words);
+    pair.know(port, client, number)
+}
+
+/// Whether a step is answered so.
+fn is_answered<P: Pair>(pair: &mut P, line: &str) -> bool {
+    let (verb, words) = cut(line);
+    match verb {
+        "own" => pair.own(&segment(words)),
+        "other" => pair.other(&segment(words)),
+        "known" => know(pair, words),
+        "turn" => is_end(pair, true, words),
+        "event" => is_end(pair, false, words),
+        "turns" => are_quiet(pair, short(words)),
+        "client" => is_client(pair, words),
+        "out" => is_out(pair, words),
+        "captured" => pair.capture(),
+        "acknowledged" => pair.acknowledge(),
+        "alone" => pair.leave_alone(),
+        "survive" => pair.survive() && pair.released() == usize::from(short(words)),
+        "line" => is_line(pair, words),
+        "number" => is_number(pair, words),
+        _ => false,
     }
-}
-
-/// Whether a line of a text is answered so.
-fn is_answered(
-    alloc: Global,
-    compare: &mut Compare,
-    line: &str,
-    out: &mut Frames,
-) -> Result<bool, NoMemory> {
-    let words: Vec<&str> = line.split(' ').collect(alloc)?;
-    answers(alloc, compare, &words, out)
-}
-
-/// The first line of a text that isn't answered so.
-fn first_wrong<'a>(
-    alloc: Global,
-    compare: &mut Compare,
-    text: &'a str,
-    out: &mut Frames,
-) -> Result<Option<&'a str>, NoMemory> {
-    for line in text.lines() {
-        if !is_answered(alloc, compare, line, out)? {
-            return Ok(Some(line));
-        }
-    }
-    Ok(None)
 }
 
 /// Plays the texts one after the other, and asserts that each line is answered so.
-fn play(rt: &(impl Abort + AllocGlobal), texts: &[&str]) -> Result<Frames, Fail> {
-    let alloc = rt.alloc();
-    let mut out = Frames::new(alloc);
-    let mut compare = Compare::new(alloc);
+fn play<R: Abort, P: Pair>(rt: &R, pair: &mut P, texts: &[&str]) {
     for text in texts {
-        let wrong = first_wrong(alloc, &mut compare, text, &mut out)?;
-        assert_eq!(rt; wrong, None, "{text}");
+        for line in text.lines() {
+            assert!(rt; is_answered(pair, line), "{line}");
+        }
     }
-    Ok(out)
 }
 
 #[test]
-fn exchanges_are_answered_step_by_step(rt: HostRuntime) -> Result<(), Fail> {
+fn exchanges_are_answered_step_by_step(rt: HostRuntime) {
     for text in [
         DIFFERENCE, CUTS, RESTART, SILENCE, NEIGHBOURS, WINDOW, RESET, FIN, FIN_OF_536, FIN_OF_537,
     ] {
-        let _ = play(&rt, &[OPENING, text])?;
+        play(&rt, &mut Exchange::new(rt.alloc()), &[OPENING, text]);
     }
-    Ok(())
 }
 
 #[test]
-fn guests_without_a_released_syn(rt: HostRuntime) -> Result<(), Fail> {
+fn guests_without_a_released_syn(rt: HostRuntime) {
     for text in [EARLY_RESET, REFUSAL, OTHER_CLIENT] {
-        let _ = play(&rt, &[text])?;
+        play(&rt, &mut Exchange::new(rt.alloc()), &[text]);
     }
-    Ok(())
 }
 
 #[test]
-fn the_syn_that_goes_out_is_58_bytes(rt: HostRuntime) -> Result<(), Fail> {
-    let out = play(&rt, &[OPENING])?;
-    assert_eq!(rt; out.get(0), Some(SYN.as_slice()));
-    Ok(())
+fn a_survivor_releases_all_that_its_lines_hold(rt: HostRuntime) {
+    let mut pair = Exchange::new(rt.alloc());
+    play(&rt, &mut pair, &[OPENING, RESTART, SURVIVOR]);
+}
+
+#[test]
+fn a_node_alone_releases_its_own_bytes_and_needs_no_checkpoint(rt: HostRuntime) {
+    play(&rt, &mut Exchange::new(rt.alloc()), &[OPENING, ALONE]);
+}
+
+#[test]
+fn the_syn_that_goes_out_is_58_bytes(rt: HostRuntime) {
+    let mut pair = Exchange::new(rt.alloc());
+    play(&rt, &mut pair, &[OPENING]);
+    assert_eq!(rt; pair.frame(0), Some(SYN.as_slice()));
 }

@@ -3,14 +3,22 @@
 #![tactic(auto)]
 
 #[cfg(test)]
+mod apart;
+#[cfg(test)]
 mod checkpoint;
 #[cfg(test)]
 mod comparer;
+#[cfg(test)]
+mod exchange;
 #[cfg(test)]
 mod guest;
 #[cfg(test)]
 mod messages;
 #[cfg(test)]
+mod node;
+#[cfg(test)]
 mod release;
 #[cfg(test)]
 mod secondary;
+#[cfg(test)]
+mod words;

@@ -6,10 +6,9 @@
 //! state, and both compare it; `turns` is how many the guest made. Bytes are words in hexadecimal,
 //! names of the list below, and `*` with a count of zeros.
 
-use colo_base::Frames;
+use crate::node::{Heard, Node};
+use crate::words::{cut, number};
 use colo_wire::{HearFault, Told, Turned};
-use node_secondary::Secondary;
-use state_wire::{Guest, ScriptGuest};
 use std::alloc::Global;
 use std::process::Abort;
 use std::test::Fail;
@@ -124,98 +123,98 @@ fn bytes(alloc: Global, words: &str) -> Result<Vec<u8>, Fail> {
     Ok(out)
 }
 
-/// A secondary whose guest answers a SYN in a turn whose clock goes on by 1.
-fn secondary(alloc: Global) -> Result<Secondary<ScriptGuest>, Fail> {
-    let mut answer = Frames::new(alloc);
-    answer.push(&bytes(alloc, "answer")?)?;
-    let mut table = Vec::new(alloc);
-    table.push(Frames::new(alloc))?;
-    table.push(answer)?;
-    Ok(Secondary::new(alloc, ScriptGuest::new(alloc, table))?)
-}
-
-/// What a message was told to have done, as text.
-fn heard_text(alloc: Global, heard: Result<Told, HearFault>) -> Result<String, Fail> {
-    Ok(match heard {
-        Ok(told) => match told.commit {
-            Some(e) => format!(in alloc; "{} commits {e}", told.kind)?,
-            None => format!(in alloc; "{}{}", told.kind, if told.full { " full" } else { "" })?,
-        },
-        Err(HearFault::NotDue(kind)) => format!(in alloc; "not due {kind}")?,
-        Err(HearFault::NoMessage(_)) => String::from_str(alloc, "no message")?,
-        Err(HearFault::NoMemory) => String::from_str(alloc, "out of memory")?,
-    })
-}
-
-type Node = Secondary<ScriptGuest>;
-
-fn hear(alloc: Global, node: &mut Node, message: &[u8]) -> Result<String, Fail> {
-    let mut out = Frames::new(alloc);
-    heard_text(alloc, node.hear(message, &mut out))
-}
-
-fn fill(alloc: Global, node: &mut Node, message: &[u8]) -> Result<String, Fail> {
-    for _ in 1..4096 {
-        let mut out = Frames::new(alloc);
-        let heard = node.hear(message, &mut out);
-        if heard.is_err() {
-            return heard_text(alloc, heard);
+/// Whether a message did what an answer says: the number of its kind, and what else it did; or why
+/// it was refused.
+fn is_told(heard: Result<Told, HearFault>, answer: &str) -> bool {
+    match heard {
+        Ok(told) => {
+            let (kind, rest) = cut(answer);
+            number(kind) == u32::from(told.kind) && is_rest(told, rest)
         }
+        Err(HearFault::NotDue(kind)) => {
+            answer.strip_prefix("not due ").map(number) == Some(u32::from(kind))
+        }
+        Err(HearFault::NoMessage(_)) => answer == "no message",
+        Err(HearFault::NoMemory) => answer == "out of memory",
     }
-    hear(alloc, node, message)
 }
 
-fn turn(alloc: Global, node: &mut Node, words: &str) -> Result<String, Fail> {
-    let (ticks, wish) = words.split_once(' ').ok_or("no wish")?;
-    let mut out = Frames::new(alloc);
-    let (turned, _) = node.turn(ticks.parse()?, wish == "1", 0, 0, &mut out)?;
-    Ok(match turned {
-        Turned::Made(Some(index)) => format!(in alloc; "{index}")?,
-        Turned::Made(None) => String::from_str(alloc, "-")?,
-        Turned::Paused => String::from_str(alloc, "paused")?,
+fn is_rest(told: Told, rest: &str) -> bool {
+    match told.commit {
+        Some(e) => rest.strip_prefix("commits ").map(number) == Some(e),
+        None => rest == if told.full { "full" } else { "" },
+    }
+}
+
+/// Hears a message 4,096 times, of which the last one is answered.
+fn fill<N: Node>(node: &mut N, message: &[u8]) -> Result<Told, HearFault> {
+    for _ in 1..4096 {
+        let _ = node.hear(message)?;
+    }
+    node.hear(message)
+}
+
+fn is_turn<N: Node>(node: &mut N, words: &str, answer: &str) -> bool {
+    let (ticks, wish) = cut(words);
+    match node.turn(u64::from(number(ticks)), wish == "1") {
+        Some(Turned::Made(Some(index))) => u64::from(number(answer)) == index,
+        Some(Turned::Made(None)) => answer == "-",
+        Some(Turned::Paused) => answer == "paused",
+        None => false,
+    }
+}
+
+fn says<N: Node>(node: &mut N, wanted: &[u8]) -> &'static str {
+    match node.oldest() {
+        Some(message) => if message.as_slice() == wanted {
+            "yes"
+        } else {
+            "no"
+        },
+        None => "nothing",
+    }
+}
+
+fn has_state<N: Node>(alloc: Global, node: &N, wanted: &[u8]) -> &'static str {
+    let mut state = Vec::new(alloc);
+    if node.state(&mut state) && state.as_slice() == wanted {
+        "yes"
+    } else {
+        "no"
+    }
+}
+
+/// Whether a step is answered so.
+fn is_answered<N: Node>(
+    alloc: Global,
+    node: &mut N,
+    asked: &str,
+    answer: &str,
+) -> Result<bool, Fail> {
+    let (verb, words) = cut(asked);
+    Ok(match verb {
+        "hear" => is_told(node.hear(&bytes(alloc, words)?), answer),
+        "fill" => is_told(fill(node, &bytes(alloc, words)?), answer),
+        "turn" => is_turn(node, words, answer),
+        "says" => says(node, &bytes(alloc, words)?) == answer,
+        "state" => has_state(alloc, node, &bytes(alloc, words)?) == answer,
+        "turns" => u64::from(number(answer)) == node.turned(),
+        _ => false,
     })
 }
 
-fn says(alloc: Global, node: &mut Node, words: &str) -> Result<String, Fail> {
-    let wanted = bytes(alloc, words)?;
-    let text = match node.outgoing() {
-        Some(message) => if message == wanted { "yes" } else { "no" },
-        None => "nothing",
-    };
-    Ok(String::from_str(alloc, text)?)
-}
-
-fn state(alloc: Global, node: &Node, words: &str) -> Result<String, Fail> {
-    let wanted = bytes(alloc, words)?;
-    let mut state = Vec::new(alloc);
-    node.guest().state(&mut state)?;
-    let text = if state == wanted { "yes" } else { "no" };
-    Ok(String::from_str(alloc, text)?)
-}
-
-/// Makes a step, and answers it.
-fn step(alloc: Global, node: &mut Node, verb: &str, words: &str) -> Result<String, Fail> {
-    match verb {
-        "hear" => hear(alloc, node, &bytes(alloc, words)?),
-        "fill" => fill(alloc, node, &bytes(alloc, words)?),
-        "turn" => turn(alloc, node, words),
-        "says" => says(alloc, node, words),
-        "state" => state(alloc, node, words),
-        "turns" => Ok(format!(in alloc; "{}", node.guest().turned())?),
-        _ => Err("no such step".into()),
-    }
-}
-
-/// Plays a script, and asserts each answer.
-fn play(rt: &(impl Abort + AllocGlobal), script: &str) -> Result<(), Fail> {
-    let mut node = secondary(rt.alloc())?;
+/// Plays a script, and asserts that each line is answered so.
+fn play<N: Node>(rt: &(impl Abort + AllocGlobal), node: &mut N, script: &str) -> Result<(), Fail> {
     for line in script.lines() {
         let (asked, answer) = line.split_once(" : ").ok_or("no answer")?;
-        let (verb, words) = asked.split_once(' ').unwrap_or((asked, ""));
-        let answered = step(rt.alloc(), &mut node, verb, words)?;
-        assert_eq!(rt; answered.as_str(), answer, "{line}");
+        assert!(rt; is_answered(rt.alloc(), node, asked, answer)?, "{line}");
     }
     Ok(())
+}
+
+/// A secondary whose guest answers a SYN in a turn whose clock goes on by 1.
+fn secondary(alloc: Global) -> Result<Heard, Fail> {
+    Ok(Heard::new(alloc, &bytes(alloc, "answer")?)?)
 }
 
 /// The guest's number is 31 * 0 + 2 + 1, which is 3, and then 31 * 3 + 1 + 1, which is 95.
@@ -377,20 +376,20 @@ hear held syn : not due 8
 
 #[test]
 fn a_number_a_frame_and_a_checkpoint_are_heard(rt: HostRuntime) -> Result<(), Fail> {
-    play(&rt, ONCE)
+    play(&rt, &mut secondary(rt.alloc())?, ONCE)
 }
 
 #[test]
 fn what_is_not_due_is_refused_and_changes_nothing(rt: HostRuntime) -> Result<(), Fail> {
-    play(&rt, NOT_DUE)
+    play(&rt, &mut secondary(rt.alloc())?, NOT_DUE)
 }
 
 #[test]
 fn checkpoints_are_heard_between_turns(rt: HostRuntime) -> Result<(), Fail> {
-    play(&rt, BETWEEN)
+    play(&rt, &mut secondary(rt.alloc())?, BETWEEN)
 }
 
 #[test]
 fn a_full_inbox_drops_frames_and_refuses_held_ones(rt: HostRuntime) -> Result<(), Fail> {
-    play(&rt, FULL)
+    play(&rt, &mut secondary(rt.alloc())?, FULL)
 }
