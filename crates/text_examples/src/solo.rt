@@ -6,6 +6,7 @@ use replay_log::parse_single;
 use splice_run::{SoloFault, single_run_is_in_limits, solo};
 use state_wire::{Guest, ScriptGuest};
 use std::alloc::Global;
+use std::process::Abort;
 use std::test::Fail;
 use worked_frames::{ACK_5004, ACK_9004, CLEAN_SYN, CLIENT_SYN, OTHER_SYN};
 
@@ -28,23 +29,84 @@ fn stream(alloc: Global) -> Result<Frames, NoMemory> {
     Ok(stream)
 }
 
-/// Runs the turns of a text on a machine.
-fn run(
-    alloc: Global,
-    machine: &mut ScriptGuest,
-    text: &[u8],
-    out: &mut Frames,
-) -> Result<Result<(), SoloFault>, Fail> {
-    let turns = parse_single(alloc, text)?;
-    single_run_is_in_limits();
-    Ok(solo(alloc, machine, &stream(alloc)?, &turns, out))
+/// A machine that runs texts of turns. No call has a clause, so that what the contracts say stands
+/// in no goal of a test.
+trait Machine {
+    /// Runs the turns of a text on the stream.
+    fn run(&mut self, text: &[u8]) -> Result<Result<(), SoloFault>, Fail>;
+    /// The guest's number in eight bytes, and the last frame that it received.
+    fn state(&self) -> Result<Vec<u8>, NoMemory>;
+    /// How many turns the guest made.
+    fn turned(&self) -> u64;
+    /// How many frames it sent.
+    fn sent(&self) -> usize;
 }
 
-/// The guest's number in eight bytes, and the last frame that it received.
-fn state(alloc: Global, guest: &ScriptGuest) -> Result<Vec<u8>, NoMemory> {
-    let mut bytes = Vec::new(alloc);
-    guest.state(&mut bytes)?;
-    Ok(bytes)
+/// The test guest, and what it sent.
+#[derive(Drop)]
+struct Single {
+    alloc: Global,
+    guest: ScriptGuest,
+    out: Frames,
+}
+
+impl Single {
+    fn new(alloc: Global) -> Result<Single, NoMemory> {
+        Ok(Single {
+            alloc,
+            guest: guest(alloc)?,
+            out: Frames::new(alloc),
+        })
+    }
+}
+
+impl Machine for Single {
+    fn run(&mut self, text: &[u8]) -> Result<Result<(), SoloFault>, Fail> {
+        let turns = parse_single(self.alloc, text)?;
+        let stream = stream(self.alloc)?;
+        single_run_is_in_limits();
+        Ok(solo(self.alloc, &mut self.guest, &stream, &turns, &mut self.out))
+    }
+
+    fn state(&self) -> Result<Vec<u8>, NoMemory> {
+        let mut bytes = Vec::new(self.alloc);
+        self.guest.state(&mut bytes)?;
+        Ok(bytes)
+    }
+
+    fn turned(&self) -> u64 {
+        self.guest.turned()
+    }
+
+    fn sent(&self) -> usize {
+        self.out.len()
+    }
+}
+
+/// Runs the turns of a text to their end, and asserts the guest's number and its last frame.
+fn goes_on<M: Machine>(
+    rt: &(impl Abort + AllocGlobal),
+    machine: &mut M,
+    text: &[u8],
+    number: u64,
+    frame: &[u8],
+) -> Result<(), Fail> {
+    assert_eq!(rt; machine.run(text)?, Ok(()));
+    let wanted = state_of(rt.alloc(), number, frame)?;
+    assert_eq!(rt; machine.state()?.as_slice(), wanted.as_slice());
+    Ok(())
+}
+
+/// Asserts that a run ends before its second turn.
+fn ends_before_its_second_turn<M: Machine>(
+    rt: &impl Abort,
+    machine: &mut M,
+    text: &[u8],
+) -> Result<(), Fail> {
+    assert_eq!(rt; machine.run(text)?, Err(SoloFault::NoFrame { turn: 2 }));
+    assert_eq!(rt; machine.turned(), 1);
+    assert_eq!(rt; machine.sent(), 1);
+    Ok(())
 }
 
 /// A number in eight bytes, and a frame.
@@ -57,75 +119,52 @@ fn state_of(alloc: Global, number: u64, frame: &[u8]) -> Result<Vec<u8>, NoMemor
 
 #[test]
 fn frames_are_given_in_any_order_and_twice(rt: HostRuntime) -> Result<(), Fail> {
-    let alloc = rt.alloc();
-    let mut machine = guest(alloc)?;
-    let mut out = Frames::new(alloc);
-    let end = run(
-        alloc,
+    let mut machine = Single::new(rt.alloc())?;
+    // 31 * 0 + 1 is 1, 31 * 1 + 1 is 32, and 31 * 32 + 1 is 993
+    goes_on(
+        &rt,
         &mut machine,
         b"T 0 1 0 0\nT 0 0 0 0\nT 0 0 0 0\n",
-        &mut out,
+        993,
+        &CLEAN_SYN,
     )?;
-    assert_eq!(rt; end, Ok(()));
-    // 31 * 0 + 1 is 1, 31 * 1 + 1 is 32, and 31 * 32 + 1 is 993
-    assert_eq!(rt;
-        state(alloc, &machine)?.as_slice(),
-        state_of(alloc, 993, &CLEAN_SYN)?.as_slice()
-    );
     assert_eq!(rt; machine.turned(), 3);
-    assert_eq!(rt; out.len(), 0);
+    assert_eq!(rt; machine.sent(), 0);
     Ok(())
 }
 
 #[test]
 fn an_acknowledgement_is_raised_to_the_opening_sent_before(rt: HostRuntime) -> Result<(), Fail> {
-    let alloc = rt.alloc();
-    let mut machine = guest(alloc)?;
-    let mut out = Frames::new(alloc);
+    let mut machine = Single::new(rt.alloc())?;
     // no opening was sent yet: 31 * 0 + 1 is 1
-    let end = run(alloc, &mut machine, b"T 0 1/1000/5000 0 0\n", &mut out)?;
-    assert_eq!(rt; end, Ok(()));
-    assert_eq!(rt;
-        state(alloc, &machine)?.as_slice(),
-        state_of(alloc, 1, &ACK_5004)?.as_slice()
-    );
+    goes_on(&rt, &mut machine, b"T 0 1/1000/5000 0 0\n", 1, &ACK_5004)?;
     // it is sent in one turn, and known in the next: 31 * 1 + 2 is 33, and 31 * 33 + 1 is 1024
-    let end = run(
-        alloc,
+    goes_on(
+        &rt,
         &mut machine,
         b"T 1 - 0 0\nT 0 1/1000/5000 0 0\n",
-        &mut out,
+        1024,
+        &ACK_9004,
     )?;
-    assert_eq!(rt; end, Ok(()));
-    assert_eq!(rt; out.len(), 1);
-    assert_eq!(rt;
-        state(alloc, &machine)?.as_slice(),
-        state_of(alloc, 1024, &ACK_9004)?.as_slice()
-    );
+    assert_eq!(rt; machine.sent(), 1);
     // and in a run that goes on from it: 31 * 1024 + 1 is 31745
-    let end = run(alloc, &mut machine, b"T 0 1/1000/5000 0 0\n", &mut out)?;
-    assert_eq!(rt; end, Ok(()));
-    assert_eq!(rt;
-        state(alloc, &machine)?.as_slice(),
-        state_of(alloc, 31745, &ACK_9004)?.as_slice()
-    );
-    Ok(())
+    goes_on(
+        &rt,
+        &mut machine,
+        b"T 0 1/1000/5000 0 0\n",
+        31745,
+        &ACK_9004,
+    )
 }
 
 #[test]
 fn a_turn_without_its_frame_ends_the_run_before_it(rt: HostRuntime) -> Result<(), Fail> {
-    let alloc = rt.alloc();
     for text in [
         b"T 1 0 0 0\nT 1 2 0 0\nT 1 - 0 0\n".as_slice(),
         b"T 1 0 0 0\nT 1 3 0 0\nT 1 - 0 0\n".as_slice(),
         b"T 1 0 0 0\nT 1 18446744073709551615 0 0\nT 1 - 0 0\n".as_slice(),
     ] {
-        let mut machine = guest(alloc)?;
-        let mut out = Frames::new(alloc);
-        let end = run(alloc, &mut machine, text, &mut out)?;
-        assert_eq!(rt; end, Err(SoloFault::NoFrame { turn: 2 }));
-        assert_eq!(rt; machine.turned(), 1);
-        assert_eq!(rt; out.len(), 1);
+        ends_before_its_second_turn(&rt, &mut Single::new(rt.alloc())?, text)?;
     }
     Ok(())
 }
