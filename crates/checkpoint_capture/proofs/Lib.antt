@@ -1,0 +1,6 @@
+pub mod PutLemmas
+pub mod ListLemmas
+pub mod StateLemmas
+pub mod LineLemmas
+pub mod HeldLemmas
+pub mod PieceLemmas

@@ -1,0 +1,19 @@
+-- The message was spelled into bytes of its own.
+use Rattle.std.proofs.Common.{◌≡◌, [], ◌∷◌, ◌++◌, OnOk, subst}
+use Rattle.colo_wire.specs.declared.messages.Message.{Message}
+use Rattle.colo_wire.specs.declared.messages.Message.TheVariants as message
+use Rattle.checkpoint_capture.proofs.PutLemmas.{put_same, put_whole}
+use Rattle.checkpoint_capture.proofs.messages.put_held.Goals as goal
+
+pub put-requires : goal.put-requires
+put-requires c =
+    put_whole (message.Held c.args.index c.args.seen c.args.trim c.args.frame.now)
+    c.in_ok-bytes.bytes.items c.encode_held.new.into.items c.encode_held.ensures.message
+    c.in_ok-bytes.ensures.items c.in_ok-encode_held.ensures.ok
+
+pub returns : goal.returns
+returns c =
+    subst (λ (m : Message). OnOk c.put.result (c.put.new.self ≡ c.args.waits.now ++ m ∷ []))
+    (put_same (message.Held c.args.index c.args.seen c.args.trim c.args.frame.now)
+    c.in_ok-bytes.bytes.items c.encode_held.new.into.items c.encode_held.ensures.message
+    c.in_ok-bytes.ensures.items c.in_ok-encode_held.ensures.ok) c.put.ensures.ok
