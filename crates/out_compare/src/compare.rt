@@ -223,6 +223,13 @@ impl Compare {
         }
     }
 
+    /// Says whether the node is alone.
+    pub fn is_alone(&self) -> bool
+        ensures { result ≡ self.now.comparing.is_alone }
+    {
+        self.tables.is_alone
+    }
+
     /// The other node stopped: from now on the node is alone. It takes no memory.
     pub fn alone(&mut self)
         ensures after { self.new.comparing ≡ leave_alone self.old.comparing }
