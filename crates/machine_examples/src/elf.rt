@@ -30,11 +30,21 @@ fn put(image: &mut [u8], at: usize, word: u32)
     image[at..at + 4].copy_from_slice(&word.to_le_bytes());
 }
 
+/// Loads an image. `None` is a memory that no machine has. It has no clause, so that what the
+/// loader's contract says stands in no goal of the tests.
+fn loaded(image: &[u8], memory: &mut [u8]) -> Option<Result<u32, ElfFault>> {
+    if memory.len() > 0x400_0000 {
+        return None;
+    }
+    Some(load(image, memory))
+}
+
 /// The number of the case that memory of 64 bytes meets, or 0 where the image is loaded.
 fn case_of(image: &[u8]) -> u8 {
-    match load(image, &mut [0xAA; 64]) {
-        Ok(_) => 0,
-        Err(fault) => fault.number,
+    match loaded(image, &mut [0xAA; 64]) {
+        Some(Ok(_)) => 0,
+        Some(Err(fault)) => fault.number,
+        None => 255,
     }
 }
 
@@ -87,13 +97,13 @@ const OVERLAP: [u8; 124] = [
 #[test]
 fn segments_stand_at_their_physical_addresses(rt: HostRuntime) {
     let mut memory = [0xAA; 16];
-    assert_eq!(rt; load(&OVERLAP, &mut memory), Ok(0x8000_0004));
+    assert_eq!(rt; loaded(&OVERLAP, &mut memory), Some(Ok(0x8000_0004)));
     assert_eq!(rt; memory, [1, 2, 3, 4, 5, 6, 0, 8, 0, 0, 0, 0, 0, 0, 0, 0]);
     let mut least = [0xAA; 8];
-    assert_eq!(rt; load(&OVERLAP, &mut least), Ok(0x8000_0004));
+    assert_eq!(rt; loaded(&OVERLAP, &mut least), Some(Ok(0x8000_0004)));
     assert_eq!(rt; least, [1, 2, 3, 4, 5, 6, 0, 8]);
     let mut short = [0xAA; 7];
-    assert_eq!(rt; load(&OVERLAP, &mut short), Err(ElfFault::OUTSIDE));
+    assert_eq!(rt; loaded(&OVERLAP, &mut short), Some(Err(ElfFault::OUTSIDE)));
     assert_eq!(rt; short, [0xAA; 7]);
 }
 
@@ -103,7 +113,7 @@ fn a_table_without_entries_has_a_place_too(rt: HostRuntime) {
     let mut image = image();
     put(&mut image, 44, 0);
     put(&mut image, 28, 88);
-    assert_eq!(rt; load(&image, &mut memory), Err(ElfFault::EMPTY));
+    assert_eq!(rt; loaded(&image, &mut memory), Some(Err(ElfFault::EMPTY)));
     put(&mut image, 28, 89);
-    assert_eq!(rt; load(&image, &mut memory), Err(ElfFault::TABLE));
+    assert_eq!(rt; loaded(&image, &mut memory), Some(Err(ElfFault::TABLE)));
 }

@@ -6,6 +6,7 @@ use elf_load::ElfFault;
 use guest_machine::{BootFault, Machine};
 use state_wire::Guest;
 use std::alloc::Global;
+use std::process::Abort;
 use std::test::Fail;
 
 /// The program as another assembler gives its words, after the headers of an image. It starts both
@@ -163,7 +164,74 @@ fn boot(alloc: Global, byte: u8) -> Result<Machine<WholeDisk>, Fail> {
     Ok(machine)
 }
 
-/// Loads the state of one machine, part by part, into another.
+/// What is tested. No call has a clause, so that what the contracts say stands in no goal of the
+/// tests.
+trait Turns {
+    /// The driver's start.
+    fn begin(&mut self, out: &mut Frames) -> Result<(), NoMemory>;
+
+    /// A turn that receives the frame, where the card can, and serves a request.
+    fn hear(&mut self, out: &mut Frames) -> Result<(), NoMemory>;
+
+    /// A turn that serves a request.
+    fn go_on(&mut self, out: &mut Frames) -> Result<(), NoMemory>;
+
+    fn turned(&self) -> u64;
+
+    /// Whether the frame stands in the sector, with zeros after it.
+    fn wrote_frame(&self) -> bool;
+
+    /// Whether the card's Status had DEVICE_NEEDS_RESET, and its InterruptStatus bit 1.
+    fn broke_ring(&self) -> bool;
+
+    /// Whether so many microseconds went by, and so many steps were made.
+    fn took(&self, alloc: Global, times: &[u8; 16]) -> Result<bool, Fail>;
+}
+
+impl Turns for Machine<WholeDisk> {
+    fn begin(&mut self, out: &mut Frames) -> Result<(), NoMemory> {
+        self.turn(10, None, 0, 200, out)
+    }
+
+    fn hear(&mut self, out: &mut Frames) -> Result<(), NoMemory> {
+        if self.can_receive() {
+            self.turn(5, Some(&FRAME), 1, 60, out)?;
+        }
+        Ok(())
+    }
+
+    fn go_on(&mut self, out: &mut Frames) -> Result<(), NoMemory> {
+        self.turn(7, None, 1, 100, out)
+    }
+
+    fn turned(&self) -> u64 {
+        Guest::turned(self)
+    }
+
+    fn wrote_frame(&self) -> bool {
+        match self.sector(0) {
+            Some(sector) => sector.starts_with(&FRAME) && sector.ends_with(&[0; 452]),
+            None => false,
+        }
+    }
+
+    fn broke_ring(&self) -> bool {
+        match self.ram().part(0x8000_1400, 8) {
+            Some(found) => found.starts_with(&[79, 0, 0, 0, 2, 0, 0, 0]),
+            None => false,
+        }
+    }
+
+    fn took(&self, alloc: Global, times: &[u8; 16]) -> Result<bool, Fail> {
+        let mut state = Vec::new(alloc);
+        self.state(&mut state)?;
+        let clock = state.get(160..168).ok_or("short")?;
+        let steps = state.get(176..184).ok_or("short")?;
+        Ok(clock == &times[..8] && steps == &times[8..])
+    }
+}
+
+/// Loads what one machine has beside its memory and its disk into another.
 fn copy_state(
     alloc: Global,
     from: &Machine<WholeDisk>,
@@ -174,26 +242,34 @@ fn copy_state(
     if to.accepts(&state) {
         to.load_state(&state)?;
     }
+    Ok(())
+}
+
+/// Loads the memory of one machine into another.
+fn copy_pages(from: &Machine<WholeDisk>, to: &mut Machine<WholeDisk>) {
     for k in 0..from.pages() {
         if let Some(page) = from.page(k) {
             to.load_page(k, page);
         }
     }
+}
+
+/// Loads the disk of one machine into another.
+fn copy_sectors(from: &Machine<WholeDisk>, to: &mut Machine<WholeDisk>) {
     for k in 0..from.sectors() {
         if let Some(sector) = from.sector(k) {
             to.load_sector(k, sector);
         }
     }
-    Ok(())
 }
 
-/// The driver's start, and a turn that receives the frame and serves a request.
-fn start(machine: &mut Machine<WholeDisk>, out: &mut Frames) -> Result<(), NoMemory> {
-    machine.turn(10, None, 0, 200, out)?;
-    if machine.can_receive() {
-        machine.turn(5, Some(&FRAME), 1, 60, out)?;
-    }
-    Ok(())
+/// A machine with the state of another.
+fn copy_of(alloc: Global, from: &Machine<WholeDisk>) -> Result<Machine<WholeDisk>, Fail> {
+    let mut other = boot(alloc, 0x22)?;
+    copy_state(alloc, from, &mut other)?;
+    copy_pages(from, &mut other);
+    copy_sectors(from, &mut other);
+    Ok(other)
 }
 
 /// Whether the frame's first bytes were sent with the sector, and nothing else.
@@ -209,40 +285,45 @@ fn sent_back(out: &Frames) -> bool {
     }
 }
 
-/// Whether the frame stands in the sector, with zeros after it.
-fn wrote_frame(machine: &Machine<WholeDisk>) -> bool {
-    match machine.sector(0) {
-        Some(sector) => sector.starts_with(&FRAME) && sector.ends_with(&[0; 452]),
-        None => false,
-    }
+/// The driver's start, the frame and the first requests.
+fn check_start<R: Abort, T: Turns>(rt: &R, machine: &mut T, out: &mut Frames) -> Result<(), Fail> {
+    machine.begin(out)?;
+    machine.hear(out)?;
+    assert!(rt; sent_back(out));
+    Ok(())
 }
 
-/// Whether the card's Status had DEVICE_NEEDS_RESET, and its InterruptStatus bit 1.
-fn broke_ring(machine: &Machine<WholeDisk>) -> bool {
-    match machine.ram().part(0x8000_1400, 8) {
-        Some(found) => found.starts_with(&[79, 0, 0, 0, 2, 0, 0, 0]),
-        None => false,
-    }
+/// The last request.
+fn check_end<R: Abort, T: Turns>(rt: &R, machine: &mut T, out: &mut Frames) -> Result<(), Fail> {
+    machine.go_on(out)?;
+    assert!(rt; machine.wrote_frame() && machine.broke_ring());
+    Ok(())
 }
 
-/// The time and the count of steps in a machine's state.
-fn times(alloc: Global, machine: &Machine<WholeDisk>) -> Result<Vec<u8>, Fail> {
-    let mut state = Vec::new(alloc);
-    machine.state(&mut state)?;
-    let mut times = Vec::new(alloc);
-    times.extend_from_slice(state.get(160..168).ok_or("short")?)?;
-    times.extend_from_slice(state.get(176..184).ok_or("short")?)?;
-    Ok(times)
+/// Why a machine isn't booted of the first bytes of the image.
+fn fault_of(alloc: Global, count: usize) -> Result<Option<BootFault>, Fail> {
+    let bytes = image(alloc)?;
+    let first = bytes.as_slice().get(..count).ok_or("short")?;
+    let disk = WholeDisk::new(alloc, &[0; 512]).ok().ok_or("disk")?;
+    Ok(Machine::boot(alloc, first, disk, 1).err())
 }
 
 #[test]
 fn a_program_drives_both_devices(rt: HostRuntime) -> Result<(), Fail> {
     let mut out = Frames::new(rt.alloc());
     let mut machine = boot(rt.alloc(), 0x11)?;
-    start(&mut machine, &mut out)?;
-    assert!(rt; sent_back(&out));
-    machine.turn(7, None, 1, 100, &mut out)?;
-    assert!(rt; wrote_frame(&machine) && broke_ring(&machine));
+    check_start(&rt, &mut machine, &mut out)?;
+    check_end(&rt, &mut machine, &mut out)
+}
+
+/// 22 microseconds and 360 steps.
+const TIMES: [u8; 16] = [0, 0, 0, 0, 0, 0, 0, 22, 0, 0, 0, 0, 0, 0, 1, 104];
+
+/// The copy's end: it made one turn of its own.
+fn check_copy<R: Abort + AllocGlobal, T: Turns>(rt: &R, other: &mut T) -> Result<(), Fail> {
+    check_end(rt, other, &mut Frames::new(rt.alloc()))?;
+    assert_eq!(rt; other.turned(), 1);
+    assert!(rt; other.took(rt.alloc(), &TIMES)?);
     Ok(())
 }
 
@@ -250,28 +331,13 @@ fn a_program_drives_both_devices(rt: HostRuntime) -> Result<(), Fail> {
 fn a_copy_runs_alike(rt: HostRuntime) -> Result<(), Fail> {
     let mut out = Frames::new(rt.alloc());
     let mut machine = boot(rt.alloc(), 0x11)?;
-    start(&mut machine, &mut out)?;
-    let mut other = boot(rt.alloc(), 0x22)?;
-    copy_state(rt.alloc(), &machine, &mut other)?;
-    other.turn(7, None, 1, 100, &mut out)?;
-    assert!(rt; wrote_frame(&other) && broke_ring(&other) && other.turned() == 1);
-    // 22 microseconds and 360 steps
-    let times = times(rt.alloc(), &other)?;
-    assert!(rt; times.starts_with(&[0, 0, 0, 0, 0, 0, 0, 22, 0, 0, 0, 0, 0, 0, 1, 104]));
-    Ok(())
+    check_start(&rt, &mut machine, &mut out)?;
+    check_copy(&rt, &mut copy_of(rt.alloc(), &machine)?)
 }
 
 #[test]
 fn what_is_no_image(rt: HostRuntime) -> Result<(), Fail> {
-    let bytes = image(rt.alloc())?;
-    let disk = WholeDisk::new(rt.alloc(), &[0; 512]).ok().ok_or("disk")?;
-    let fault = Machine::boot(
-        rt.alloc(),
-        bytes.as_slice().get(..83).ok_or("short")?,
-        disk,
-        1,
-    )
-    .err();
+    let fault = fault_of(rt.alloc(), 83)?;
     assert_eq!(rt; fault, Some(BootFault::Elf(ElfFault::TABLE)));
     Ok(())
 }

@@ -1,8 +1,10 @@
 //! A platform that makes steps over its timer and its devices.
 
-use colo_base::Frames;
+use colo_base::{Frames, NoMemory};
 use page_track::Ram;
 use rv_platform::Platform;
+use std::alloc::{AllocError, Global};
+use std::process::Abort;
 use std::test::Fail;
 
 /// A program that raises its own software interrupt, and writes down what its handler finds.
@@ -44,27 +46,78 @@ const SOFTWARE_INTERRUPT: [u32; 32] = [
 /// The line, the cause, the address after the store, and the 13 steps before.
 const FOUND: [u8; 16] = [1, 0, 0, 0, 3, 0, 0, 0x80, 0x24, 0, 0, 0x80, 13, 0, 0, 0];
 
-/// A platform with a MiB of memory that begins with these words, at the first of them.
-fn platform(mut ram: Ram, words: &[u32; 32]) -> Platform {
-    let mut address = 0x8000_0000u32;
-    for word in words {
-        ram.store(address, 4, *word);
-        address = address.wrapping_add(4);
+/// What is tested. No call has a clause, so that what the contracts say stands in no goal of the
+/// test.
+trait Steps {
+    /// Makes steps, and answers how many frames were sent.
+    fn run(&mut self, steps: u32) -> Result<usize, NoMemory>;
+
+    /// Whether these bytes stand at an address.
+    fn has(&self, addr: u64, bytes: &[u8; 16]) -> bool;
+
+    /// The value of x10.
+    fn x10(&self) -> u32;
+
+    /// The steps so far.
+    fn count(&self) -> u64;
+}
+
+/// A platform, and what it sends.
+#[derive(Drop)]
+struct Computer {
+    platform: Platform,
+    out: Frames,
+}
+
+impl Computer {
+    /// One with a MiB of memory that begins with these words, at the first of them.
+    fn new(alloc: Global, words: &[u32; 32]) -> Result<Computer, AllocError> {
+        let mut ram = Ram::new(alloc, 1)?;
+        let mut address = 0x8000_0000u32;
+        for word in words {
+            ram.store(address, 4, *word);
+            address = address.wrapping_add(4);
+        }
+        Ok(Computer {
+            platform: Platform::new(ram, 0x8000_0000, 1),
+            out: Frames::new(alloc),
+        })
     }
-    Platform::new(ram, 0x8000_0000, 1)
+}
+
+impl Steps for Computer {
+    fn run(&mut self, steps: u32) -> Result<usize, NoMemory> {
+        self.platform.run(steps, &mut self.out)?;
+        Ok(self.out.len())
+    }
+
+    fn has(&self, addr: u64, bytes: &[u8; 16]) -> bool {
+        match self.platform.ram().part(addr, 16) {
+            Some(found) => found == bytes.as_slice(),
+            None => false,
+        }
+    }
+
+    fn x10(&self) -> u32 {
+        self.platform.hart().x[9]
+    }
+
+    fn count(&self) -> u64 {
+        self.platform.csrs().steps
+    }
+}
+
+fn check_interrupt<R: Abort, S: Steps>(rt: &R, computer: &mut S) -> Result<(), Fail> {
+    assert_eq!(rt; computer.run(19)?, 0);
+    assert!(rt; computer.has(0x8000_0100, &FOUND));
+    // the network card's magic value
+    assert_eq!(rt; computer.run(2)?, 0);
+    assert_eq!(rt; computer.x10(), 0x7472_6976);
+    assert_eq!(rt; computer.count(), 21);
+    Ok(())
 }
 
 #[test]
 fn a_program_raises_its_own_interrupt(rt: HostRuntime) -> Result<(), Fail> {
-    let mut platform = platform(Ram::new(rt.alloc(), 1)?, &SOFTWARE_INTERRUPT);
-    let mut out = Frames::new(rt.alloc());
-    platform.run(19, &mut out)?;
-    let found = platform.ram().part(0x8000_0100, 16).ok_or("memory")?;
-    assert!(rt; found.starts_with(&FOUND));
-    // the network card's magic value
-    platform.run(2, &mut out)?;
-    assert_eq!(rt; platform.hart().x[9], 0x7472_6976);
-    assert_eq!(rt; platform.csrs().steps, 21);
-    assert_eq!(rt; out.len(), 0);
-    Ok(())
+    check_interrupt(&rt, &mut Computer::new(rt.alloc(), &SOFTWARE_INTERRUPT)?)
 }

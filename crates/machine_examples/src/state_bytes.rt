@@ -6,6 +6,7 @@ ghost use Rattle.std.specs.Prelude.{◌<◌};
 use machine_bytes::{STATE_LEN, StateFields, accepts};
 use rv_core::HartFields;
 use rv_traps::CsrFields;
+use std::process::Abort;
 use virt_queue::{Queue, QueueFields};
 use virtio_mmio::DeviceFields;
 
@@ -100,33 +101,86 @@ fn worked() -> StateFields {
     }
 }
 
-/// Whether the worked state is accepted with another byte at a place.
-fn accepts_with(at: usize, byte: u8) -> bool
-    requires { at < 359 }
-{
-    let mut bytes = WORKED;
-    bytes[at] = byte;
-    accepts(&bytes)
+/// What is tested. No call has a clause, so that what the contracts say stands in no goal of the
+/// tests.
+trait StateBytes {
+    /// Whether the worked state is accepted.
+    fn accepts_worked(&self) -> bool;
+
+    /// Whether its first bytes are.
+    fn accepts_first(&self, count: usize) -> bool;
+
+    /// Whether it is with another byte at a place.
+    fn accepts_with(&self, at: usize, byte: u8) -> bool;
+
+    /// Whether so many zeros are.
+    fn accepts_zeros(&self) -> bool;
+
+    /// Whether the worked state is read as it is meant.
+    fn reads_worked(&self) -> bool;
+
+    /// Whether what is read of it is written as it was.
+    fn writes_back(&self) -> bool;
+}
+
+/// The bytes of a machine's state.
+#[derive(Drop)]
+struct Format;
+
+impl StateBytes for Format {
+    fn accepts_worked(&self) -> bool {
+        accepts(&WORKED)
+    }
+
+    fn accepts_first(&self, count: usize) -> bool {
+        WORKED.get(..count).is_some_and(|bytes| accepts(bytes))
+    }
+
+    fn accepts_with(&self, at: usize, byte: u8) -> bool {
+        let mut bytes = WORKED;
+        if let Some(place) = bytes.get_mut(at) {
+            *place = byte;
+        }
+        accepts(&bytes)
+    }
+
+    fn accepts_zeros(&self) -> bool {
+        accepts(&[0; 360])
+    }
+
+    fn reads_worked(&self) -> bool {
+        StateFields::read(&WORKED) == Some(worked())
+    }
+
+    fn writes_back(&self) -> bool {
+        match StateFields::read(&WORKED) {
+            Some(read) => read.to_bytes() == WORKED,
+            None => false,
+        }
+    }
 }
 
 #[test]
 fn the_worked_state_is_written_and_read(rt: HostRuntime) {
-    let read = StateFields::read(&WORKED).expect(&rt, "a state");
-    assert_eq!(rt; read, worked());
-    assert_eq!(rt; read.to_bytes(), WORKED);
+    assert!(rt; Format.reads_worked());
+    assert!(rt; Format.writes_back());
+}
+
+fn check_lengths<R: Abort, S: StateBytes>(rt: &R, format: &S) {
+    assert!(rt; format.accepts_worked());
+    assert!(rt; format.accepts_first(359));
+    assert!(rt; !format.accepts_first(358));
+    assert!(rt; !format.accepts_zeros());
+    assert!(rt; !format.accepts_first(0));
 }
 
 #[test]
 fn only_359_bytes_are_a_state(rt: HostRuntime) {
     assert_eq!(rt; STATE_LEN, 359);
-    assert!(rt; accepts(&WORKED));
-    assert!(rt; !accepts(&WORKED[..358]));
-    assert!(rt; !accepts(&[0; 360]));
-    assert!(rt; !accepts(&[]));
+    check_lengths(&rt, &Format);
 }
 
-#[test]
-fn a_bad_byte_is_refused(rt: HostRuntime) {
+fn check_bad_bytes<R: Abort, S: StateBytes>(rt: &R, format: &S) {
     // pc and mepc no multiples of 4, bits outside mstatus and mie, bit 1 of mtvec
     for (at, byte) in [
         (3, 0x12),
@@ -136,28 +190,37 @@ fn a_bad_byte_is_refused(rt: HostRuntime) {
         (135, 0x81),
         (139, 0x03),
     ] {
-        assert!(rt; !accepts_with(at, byte), "{at}");
+        assert!(rt; !format.accepts_with(at, byte), "{at}");
     }
     // msip, the reservation and the ready words are 0 or 1, in every byte
     for at in [156, 159, 184, 221, 224, 257, 260, 327, 330] {
-        assert!(rt; !accepts_with(at, 2), "{at}");
+        assert!(rt; !format.accepts_with(at, 2), "{at}");
     }
     for at in [156, 221, 257, 327] {
-        assert!(rt; !accepts_with(at, 1), "{at}");
+        assert!(rt; !format.accepts_with(at, 1), "{at}");
     }
     // a ready queue's number is a power of two from 1 to 256
     for (at, byte) in [(220, 0), (220, 3), (219, 2), (326, 1), (324, 1), (260, 1)] {
-        assert!(rt; !accepts_with(at, byte), "{at}");
+        assert!(rt; !format.accepts_with(at, byte), "{at}");
     }
 }
 
 #[test]
-fn any_byte_may_stand_elsewhere(rt: HostRuntime) {
+fn a_bad_byte_is_refused(rt: HostRuntime) {
+    check_bad_bytes(&rt, &Format);
+}
+
+fn check_other_bytes<R: Abort, S: StateBytes>(rt: &R, format: &S) {
     // a pc outside memory, x1, mscratch, the timer, the reserved address, Status, InterruptStatus,
     // the number of a queue that isn't ready, a ring's address and position, the neighbour
     for at in [
         0, 4, 127, 140, 160, 183, 185, 188, 192, 193, 216, 256, 261, 252, 289, 294, 295, 322, 358,
     ] {
-        assert!(rt; accepts_with(at, 0xFF), "{at}");
+        assert!(rt; format.accepts_with(at, 0xFF), "{at}");
     }
+}
+
+#[test]
+fn any_byte_may_stand_elsewhere(rt: HostRuntime) {
+    check_other_bytes(&rt, &Format);
 }
