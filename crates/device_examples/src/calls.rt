@@ -66,7 +66,7 @@ pub fn registers(regs: &mut Regs, name: &str, n: &[u32; 6]) -> Answer {
 }
 
 /// What a write asks of the device.
-fn event(event: Event) -> Answer {
+pub fn event(event: Event) -> Answer {
     match event {
         Event::Nothing => nothing(),
         Event::Notify(queue) => word_and_number("notify", u64::from(queue)),

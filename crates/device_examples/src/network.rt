@@ -3,7 +3,7 @@
 ghost use Rattle.std.specs.Prelude.{IsTrue};
 ghost use Rattle.virt_queue.specs.Queue.{is_legal};
 
-use crate::calls::{broken, memory, registers, served};
+use crate::calls::{broken, event, memory, registers, served};
 use crate::scene::play;
 use colo_base::{Frames, NoMemory};
 use page_track::Ram;
@@ -41,7 +41,8 @@ impl Scene for Card {
             "frames" => number(self.out.len() as u64),
             "size" => number_or_none(size_of_frame(&self.out, n[0] as usize)),
             "byte" => number_or_none(byte_of_frame(&self.out, n[0] as usize, n[1] as usize)),
-            "write" | "read" | "interrupt" => registers(self.net.regs_mut(), name, n),
+            "write" => event(self.net.write(n[0], n[1])),
+            "read" | "interrupt" => registers(self.net.regs_mut(), name, n),
             _ => memory(&mut self.ram, name, n),
         }
     }
@@ -159,15 +160,20 @@ sw 80004000 00010000
 sh 80004004 0
 ";
 
-/// A descriptor that is the next of itself breaks the card until a reset.
+/// A descriptor that is the next of itself breaks the card until a reset, which forgets the
+/// neighbour too.
 const LOOP: &str = "\
+meet 0200 00000009
+neighbour : 020000000009
 descriptor 80003000 80010000 1 1
 sent : loop
 read 070 : 4F
 interrupt : 2
 sent : idle
+neighbour : 020000000009
 write 070 0 : reset
 read 070 : 0
+neighbour : 0
 ";
 
 /// What is sent begins with 1, 2 and 3, after a header of 12 bytes.
