@@ -9,7 +9,6 @@
 use inet_frame::Tuple;
 use std::alloc::Global;
 use std::process::Abort;
-use std::test::Fail;
 use tcp_track::{Line, Opening, Tracker, What};
 use worked_frames::{DIGITS, END, OTHER_SYN, SYN};
 
@@ -67,89 +66,179 @@ const TUPLE: Tuple = Tuple {
     guest: 7,
 };
 
-fn take(tracker: &mut Tracker, name: &str) -> Result<What, Fail> {
-    let took = match name {
-        "syn" => tracker.take(&SYN)?,
-        "other" => tracker.take(&OTHER_SYN)?,
-        "digits" => tracker.take(&DIGITS)?,
-        "letters" => tracker.take(&LETTERS)?,
-        "late" => tracker.take(&LATE)?,
-        "end" => tracker.take(&END)?,
-        "after" => tracker.take(&AFTER_END)?,
-        "reset" => tracker.take(&RESET)?,
-        "refusal" => tracker.take(&REFUSAL)?,
-        "stranger" => tracker.take(&STRANGER)?,
-        _ => return Err("no such frame".into()),
-    };
-    Ok(took.what)
-}
-
-fn what_text(alloc: Global, what: What) -> Result<String, Fail> {
-    Ok(match what {
-        What::Ignored => String::from_str(alloc, "ignored")?,
-        What::Refused(client) => format!(in alloc; "refused {client}")?,
-        What::Opened(opening) => format!(in alloc; "opened {} {}", opening.client, opening.own)?,
-        What::Symbols { from, to } => format!(in alloc; "symbols {from} {to}")?,
-        What::Reset => String::from_str(alloc, "reset")?,
-        What::Restarted(opening) => {
-            format!(in alloc; "restarted {} {}", opening.client, opening.own)?
-        }
+/// The frame of a name.
+fn frame_of(name: &str) -> Option<&'static [u8]> {
+    Some(match name {
+        "syn" => SYN.as_slice(),
+        "other" => OTHER_SYN.as_slice(),
+        "digits" => DIGITS.as_slice(),
+        "letters" => LETTERS.as_slice(),
+        "late" => LATE.as_slice(),
+        "end" => END.as_slice(),
+        "after" => AFTER_END.as_slice(),
+        "reset" => RESET.as_slice(),
+        "refusal" => REFUSAL.as_slice(),
+        "stranger" => STRANGER.as_slice(),
+        _ => return None,
     })
 }
 
-fn line_text(alloc: Global, tracker: &Tracker) -> Result<String, Fail> {
-    let line = tracker.line(&TUPLE).ok_or("no line")?;
-    let bytes = line.bytes.as_slice();
-    let last = bytes.last().copied().unwrap_or(0);
-    Ok(format!(in alloc; "{} {last} {} {}", line.base, bytes.len(), line.fin)?)
+/// What a script drives. No call has a clause, so that what the contracts say stands in no goal of
+/// a test.
+trait Follows {
+    /// Takes a frame, and says what it was; `None` where memory ran out.
+    fn take(&mut self, frame: &[u8]) -> Option<What>;
+    /// Trims the connection of a client to an offset.
+    fn trim(&mut self, client: u32, offset: u32) -> bool;
+    /// Goes on with a copy that was committed.
+    fn commit(&mut self) -> bool;
+    /// Puts a line that its client opened with 1000, and the guest with 5000.
+    fn put(&mut self) -> bool;
+    /// The base of the connection's line, its last byte, how many there are, and whether FIN
+    /// follows.
+    fn line(&self) -> Option<(u32, u8, usize, bool)>;
 }
 
-fn trim(tracker: &mut Tracker, words: &str) -> Result<(), Fail> {
-    let (client, offset) = words.split_once(' ').ok_or("no offset")?;
-    tracker.trim(&TUPLE, client.parse()?, offset.parse()?);
-    Ok(())
+/// What a guest sent.
+#[derive(Drop)]
+struct Followed {
+    alloc: Global,
+    tracker: Tracker,
 }
 
-fn commit(tracker: &mut Tracker) -> Result<(), Fail> {
-    let mut copy = tracker.copy()?;
-    copy.commit();
-    *tracker = copy;
-    Ok(())
+impl Follows for Followed {
+    fn take(&mut self, frame: &[u8]) -> Option<What> {
+        match self.tracker.take(frame) {
+            Ok(took) => Some(took.what),
+            Err(_) => None,
+        }
+    }
+
+    fn trim(&mut self, client: u32, offset: u32) -> bool {
+        self.tracker.trim(&TUPLE, client, offset);
+        true
+    }
+
+    fn commit(&mut self) -> bool {
+        match self.tracker.copy() {
+            Ok(mut copy) => {
+                copy.commit();
+                self.tracker = copy;
+                true
+            }
+            Err(_) => false,
+        }
+    }
+
+    fn put(&mut self) -> bool {
+        let mut line = Line::new(self.alloc);
+        line.opening = Some(Opening {
+            client: 1000,
+            own: 5000,
+        });
+        self.tracker.put(&TUPLE, line).is_ok()
+    }
+
+    fn line(&self) -> Option<(u32, u8, usize, bool)> {
+        let line = self.tracker.line(&TUPLE)?;
+        let bytes = line.bytes.as_slice();
+        let last = bytes.last().copied().unwrap_or(0);
+        Some((line.base, last, bytes.len(), line.fin))
+    }
 }
 
-fn put(alloc: Global, tracker: &mut Tracker) -> Result<(), Fail> {
-    let mut line = Line::new(alloc);
-    line.opening = Some(Opening {
-        client: 1000,
-        own: 5000,
-    });
-    tracker.put(&TUPLE, line)?;
-    Ok(())
+/// The first word of a text, and the rest.
+fn cut(text: &str) -> (&str, &str) {
+    text.split_once(' ').unwrap_or((text, ""))
 }
 
-/// Makes a step, and answers it.
-fn step(alloc: Global, tracker: &mut Tracker, verb: &str, words: &str) -> Result<String, Fail> {
+/// The number that a word spells, 0 where it is left out.
+fn number(word: &str) -> u32 {
+    word.parse().unwrap_or(0)
+}
+
+/// Two numbers.
+fn numbers(words: &str) -> (u32, u32) {
+    let (first, second) = cut(words);
+    (number(first), number(second))
+}
+
+/// Whether a frame was what an answer says.
+fn is_what(what: What, answer: &str) -> bool {
+    let (kind, words) = cut(answer);
+    match what {
+        What::Ignored => answer == "ignored",
+        What::Refused(client) => kind == "refused" && number(words) == client,
+        What::Opened(opening) => {
+            kind == "opened" && numbers(words) == (opening.client, opening.own)
+        }
+        What::Symbols { from, to } => kind == "symbols" && numbers(words) == (from, to),
+        What::Reset => answer == "reset",
+        What::Restarted(opening) => {
+            kind == "restarted" && numbers(words) == (opening.client, opening.own)
+        }
+    }
+}
+
+fn is_taken<F: Follows>(followed: &mut F, name: &str, answer: &str) -> bool {
+    match frame_of(name) {
+        Some(frame) => match followed.take(frame) {
+            Some(what) => is_what(what, answer),
+            None => false,
+        },
+        None => false,
+    }
+}
+
+fn is_line<F: Follows>(followed: &F, answer: &str) -> bool {
+    let (base, words) = cut(answer);
+    let (last, words) = cut(words);
+    let (len, fin) = cut(words);
+    match followed.line() {
+        Some((b, l, n, f)) => {
+            number(base) == b
+                && number(last) == u32::from(l)
+                && number(len) as usize == n
+                && fin == if f { "true" } else { "false" }
+        }
+        None => false,
+    }
+}
+
+fn trim<F: Follows>(followed: &mut F, words: &str) -> bool {
+    let (client, offset) = numbers(words);
+    followed.trim(client, offset)
+}
+
+/// Whether a step is answered so.
+fn is_answered<F: Follows>(followed: &mut F, asked: &str, answer: &str) -> bool {
+    let (verb, words) = cut(asked);
     match verb {
-        "take" => return what_text(alloc, take(tracker, words)?),
-        "line" => return line_text(alloc, tracker),
-        "trim" => trim(tracker, words)?,
-        "commit" => commit(tracker)?,
-        "put" => put(alloc, tracker)?,
-        _ => return Err("no such step".into()),
+        "take" => is_taken(followed, words, answer),
+        "line" => is_line(followed, answer),
+        "trim" => trim(followed, words) && answer == "done",
+        "commit" => followed.commit() && answer == "done",
+        "put" => followed.put() && answer == "done",
+        _ => false,
     }
-    Ok(String::from_str(alloc, "done")?)
 }
 
-/// Plays a script, and asserts each answer.
-fn play(rt: &(impl Abort + AllocGlobal), script: &str) -> Result<(), Fail> {
-    let mut tracker = Tracker::new(rt.alloc());
+/// Plays a script, and asserts that each line is answered so.
+fn play_with<R: Abort, F: Follows>(rt: &R, followed: &mut F, script: &str) {
     for line in script.lines() {
-        let (asked, answer) = line.split_once(" : ").ok_or("no answer")?;
-        let (verb, words) = asked.split_once(' ').unwrap_or((asked, ""));
-        let answered = step(rt.alloc(), &mut tracker, verb, words)?;
-        assert_eq!(rt; answered.as_str(), answer, "{line}");
+        let (asked, answer) = line.split_once(" : ").unwrap_or((line, ""));
+        assert!(rt; is_answered(followed, asked, answer), "{line}");
     }
-    Ok(())
+}
+
+/// Plays a script of a guest that sent nothing.
+fn play(rt: &(impl Abort + AllocGlobal), script: &str) {
+    let alloc = rt.alloc();
+    let mut followed = Followed {
+        alloc,
+        tracker: Tracker::new(alloc),
+    };
+    play_with(rt, &mut followed, script);
 }
 
 /// Each way of a frame.
@@ -216,19 +305,19 @@ take other : opened 1000 9000
 ";
 
 #[test]
-fn each_way_of_a_frame(rt: HostRuntime) -> Result<(), Fail> {
-    play(&rt, WAYS)
+fn each_way_of_a_frame(rt: HostRuntime) {
+    play(&rt, WAYS);
 }
 
 #[test]
-fn lines_are_followed_and_trimmed(rt: HostRuntime) -> Result<(), Fail> {
-    play(&rt, OVERLAP)?;
-    play(&rt, FIN)?;
-    play(&rt, TRIMS)
+fn lines_are_followed_and_trimmed(rt: HostRuntime) {
+    play(&rt, OVERLAP);
+    play(&rt, FIN);
+    play(&rt, TRIMS);
 }
 
 #[test]
-fn openings_are_committed_and_put(rt: HostRuntime) -> Result<(), Fail> {
-    play(&rt, COMMIT)?;
-    play(&rt, PUT)
+fn openings_are_committed_and_put(rt: HostRuntime) {
+    play(&rt, COMMIT);
+    play(&rt, PUT);
 }
