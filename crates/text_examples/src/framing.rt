@@ -141,7 +141,7 @@ fn is_answered<S: Stream>(stream: &mut S, verb: &str, bytes: &[u8], answer: &str
 }
 
 /// Plays a script, and asserts that each line is answered so.
-fn play<S: Stream>(
+fn play_with<S: Stream>(
     rt: &(impl Abort + AllocGlobal),
     stream: &mut S,
     script: &str,
@@ -155,12 +155,14 @@ fn play<S: Stream>(
     Ok(())
 }
 
-/// A stream of which nothing was fed.
-fn nothing_fed(alloc: Global) -> Unframed {
-    Unframed {
+/// Plays a script with a stream of which nothing was fed.
+fn play(rt: &(impl Abort + AllocGlobal), script: &str) -> Result<(), Fail> {
+    let alloc = rt.alloc();
+    let mut unframed = Unframed {
         alloc,
         unframer: Unframer::new(alloc),
-    }
+    };
+    play_with(rt, &mut unframed, script)
 }
 
 /// A record of 60 bytes and two bytes of the next.
@@ -208,17 +210,17 @@ next : none
 
 #[test]
 fn a_stream_gives_the_same_frame_however_it_is_cut(rt: HostRuntime) -> Result<(), Fail> {
-    play(&rt, &mut nothing_fed(rt.alloc()), WHOLE)?;
-    play(&rt, &mut nothing_fed(rt.alloc()), CUT)
+    play(&rt, WHOLE)?;
+    play(&rt, CUT)
 }
 
 #[test]
 fn lengths_to_the_limit_are_taken(rt: HostRuntime) -> Result<(), Fail> {
-    play(&rt, &mut nothing_fed(rt.alloc()), LIMIT)?;
-    play(&rt, &mut nothing_fed(rt.alloc()), ABOVE)
+    play(&rt, LIMIT)?;
+    play(&rt, ABOVE)
 }
 
 #[test]
 fn the_frames_before_a_long_one_are_given(rt: HostRuntime) -> Result<(), Fail> {
-    play(&rt, &mut nothing_fed(rt.alloc()), BEFORE_LONG)
+    play(&rt, BEFORE_LONG)
 }
