@@ -1,0 +1,5 @@
+pub mod Node
+pub mod Inside
+pub mod Steps
+pub mod Answers
+pub mod Calls
