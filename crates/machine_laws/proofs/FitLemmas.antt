@@ -221,7 +221,7 @@ pages_cut (suc n) b le =
     All-cons IsPage (take page_size b) (first_pages n (drop page_size b)) (omega (arith, length-take page_size b))
     (pages_cut n (drop page_size b) (omega (arith, length-drop page_size b)))
 
-all_pages : (b : List ℕ) → All IsPage (pages_of b)
+pub all_pages : (b : List ℕ) → All IsPage (pages_of b)
 unfolding pages_of
 all_pages b = pages_cut (length b / page_size) b (omega arith)
 

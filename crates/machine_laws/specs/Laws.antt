@@ -5,7 +5,7 @@ use Rattle.std.specs.Prelude.{◌≡◌, ℕ, All, List, length}
 use Rattle.shared_definitions.specs.Bytes.{AreBytes}
 use Rattle.rv_platform.specs.Step.{PlatformState, Step, run_steps}
 use Rattle.state_wire.specs.Guest.{GuestState, GuestTurn}
-use Rattle.state_wire.specs.Regular.{FitsKind, FrameBytes, IsRegular, KeepsBytes}
+use Rattle.state_wire.specs.Regular.{FitsKind, FrameBytes, GuestBytes, IsRegular, KeepsBytes}
 use Rattle.virtio_blk.specs.Disk.{DiskState}
 use Rattle.guest_machine.specs.Boot.{at_boot}
 use Rattle.guest_machine.specs.Guest.{MachineParts, machine_meaning}
@@ -55,6 +55,13 @@ MachinesFit = (m : MachineParts) (g : GuestState) (turn : GuestTurn)
 
 abbrev pub MachinesAreRegular : Type 0
 MachinesAreRegular = (m : MachineParts) → IsRegular (machine_meaning m).kind
+
+-- the state of a machine of bytes, whose sectors have 512 bytes, is one of its kind: with a regular
+-- kind this is what a start of the pair asks
+abbrev pub StatesAreOfTheirKind : Type 0
+StatesAreOfTheirKind = (m : MachineParts) → StateBytes m.state
+    → All (λ (sector : List ℕ). length sector ≡ 512) m.state.disk.mine
+    → FitsKind (machine_meaning m).kind (machine_meaning m).state × GuestBytes (machine_meaning m).state
 
 -- a machine that boots from bytes over a disk of bytes is of bytes
 abbrev pub BootsAreBytes : Type 0

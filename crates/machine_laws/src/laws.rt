@@ -1,7 +1,7 @@
 //! Bytes stay bytes, sizes stay sizes, and what is sent is bytes. Each law is the contract of a
 //! call that does nothing.
 
-ghost use Rattle.machine_laws.specs.Laws.{BootsAreBytes, MachinesAreRegular, MachinesFit, MachinesKeepBytes, SizesStay, StepsKeepBytes, TurnsKeepBytes};
+ghost use Rattle.machine_laws.specs.Laws.{BootsAreBytes, MachinesAreRegular, MachinesFit, MachinesKeepBytes, SizesStay, StatesAreOfTheirKind, StepsKeepBytes, TurnsKeepBytes};
 
 /// Steps from memory of bytes lead to memory of bytes, and send bytes.
 pub fn steps_keep_bytes()
@@ -34,6 +34,11 @@ pub fn machines_fit()
 #[tactic(auto, using(crate::proofs::RegularLemmas::machines_are_regular))]
 pub fn machines_are_regular()
     ensures { MachinesAreRegular }
+{}
+
+/// The state of a machine of bytes, over sectors of 512 bytes, is one of its kind.
+pub fn states_are_of_their_kind()
+    ensures { StatesAreOfTheirKind }
 {}
 
 /// A machine that boots from an image of bytes over a disk of bytes is of bytes.

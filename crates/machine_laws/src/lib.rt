@@ -6,5 +6,5 @@ mod laws;
 
 pub use laws::{
     boots_are_bytes, machines_are_regular, machines_fit, machines_keep_bytes, sizes_stay,
-    steps_keep_bytes, turns_keep_bytes,
+    states_are_of_their_kind, steps_keep_bytes, turns_keep_bytes,
 };
