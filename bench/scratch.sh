@@ -21,6 +21,7 @@ scratch() {
         done
         waiting=$rest
     done
+    echo "$(wc -l < "$work/crates.txt") crates below $name are proved first where nothing is kept of them: seconds, or up to half an hour" >&2
     echo "$name: $*" >> "$work/crates.txt"
     cd "$work/crates/$name"
 }
