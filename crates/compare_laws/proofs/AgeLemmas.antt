@@ -44,16 +44,16 @@ use Rattle.compare_laws.proofs.StartLemmas.{IsDistinct, distinct_after, distinct
 
 -- ONE SETTLING
 
-abbrev settled_with : Bool → KeptScene → Tuple → Progress → Option LineFields → Progress
+abbrev pub settled_with : Bool → KeptScene → Tuple → Progress → Option LineFields → Progress
 settled_with r scene t p None = p
 settled_with r scene t p (Some l) =
     (settle_or_rest r (both_kept scene t l) p scene.is_turn scene.tooks).progress
 
 -- a connection's progress after a settling
-abbrev settled : KeptScene → Tuple → Progress → Progress
+abbrev pub settled : KeptScene → Tuple → Progress → Progress
 settled scene t p = settled_with (is_restarted scene t) scene t p (line_at scene.mine t)
 
-settles_here : (scene : KeptScene) (table : ProgressTable) (t : Tuple) →
+pub settles_here : (scene : KeptScene) (table : ProgressTable) (t : Tuple) →
     progress_at (settle_kept_tuple scene table t).progress t ≡ settled scene t (progress_at table t)
 unfolding settle_kept_tuple settle_line line_settled
 settles_here scene table t = by_line (line_at scene.mine t)
@@ -63,7 +63,7 @@ settles_here scene table t = by_line (line_at scene.mine t)
     by_line None = refl
     by_line (Some l) = progress_at-set_same table t _
 
-settles_elsewhere : (scene : KeptScene) (table : ProgressTable) (t u : Tuple) → same_tuple t u ≡ false →
+pub settles_elsewhere : (scene : KeptScene) (table : ProgressTable) (t u : Tuple) → same_tuple t u ≡ false →
     progress_at (settle_kept_tuple scene table u).progress t ≡ progress_at table t
 unfolding settle_kept_tuple settle_line
 settles_elsewhere scene table t u other = by_line (line_at scene.mine u)
@@ -72,7 +72,7 @@ settles_elsewhere scene table t u other = by_line (line_at scene.mine u)
     by_line None = refl
     by_line (Some l) = progress_at-set_other table t u _ other
 
-not_among : (scene : KeptScene) (so_far : Settlement) (ts : List Tuple) (t : Tuple) →
+pub not_among : (scene : KeptScene) (so_far : Settlement) (ts : List Tuple) (t : Tuple) →
     list_any (same_tuple t) ts ≡ false →
     progress_at (fold (add_tuple scene) so_far ts).progress t ≡ progress_at so_far.progress t
 not_among scene so_far [] t h = refl
@@ -81,7 +81,7 @@ not_among scene so_far (u ∷ ts) t h =
     not_among scene (add_tuple scene so_far u) ts t parts.1
     ∙ settles_elsewhere scene so_far.progress t u parts.0
 
-among : (scene : KeptScene) (so_far : Settlement) (ts : List Tuple) (t : Tuple) → IsDistinct ts →
+pub among : (scene : KeptScene) (so_far : Settlement) (ts : List Tuple) (t : Tuple) → IsDistinct ts →
     list_any (same_tuple t) ts ≡ true → progress_at (fold (add_tuple scene) so_far ts).progress t
     ≡ settled scene t (progress_at so_far.progress t)
 among scene so_far [] t d h = absurd (true≢false (sym h))
@@ -113,7 +113,7 @@ settled_without scene t p h =
     by_line None e = refl
     by_line (Some x) e = absurd (true≢false e)
 
-at_end : (scene : KeptScene) (table : ProgressTable) (t : Tuple) → IsDistinct (tuples_of scene.mine) →
+pub at_end : (scene : KeptScene) (table : ProgressTable) (t : Tuple) → IsDistinct (tuples_of scene.mine) →
     progress_at (settle_kept scene table).progress t ≡ settled scene t (progress_at table t)
 unfolding settle_kept
 at_end scene table t d = by (list_any (same_tuple t) (tuples_of scene.mine)) refl
@@ -151,7 +151,7 @@ noted_elsewhere table t took other = by (is_noted took.what)
     by false = refl
 
 -- what was noted of a connection
-noted : (table : ProgressTable) (t : Tuple) (took : Took) → progress_at (note_progress table took) t
+pub noted : (table : ProgressTable) (t : Tuple) (took : Took) → progress_at (note_progress table took) t
     ≡ (if same_tuple t took.tuple then progress_with took.what (progress_at table t) else progress_at table t)
 noted table t took = by (same_tuple t took.tuple) refl
   where

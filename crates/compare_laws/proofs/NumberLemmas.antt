@@ -33,28 +33,28 @@ use Rattle.compare_laws.proofs.FindLemmas.{any-filter, any-find, any-insert, fin
 use Rattle.compare_laws.proofs.LineLemmas.{current_of, goes_on}
 
 -- a number of this client
-abbrev is_of : Incarnation → KeptNumber → Bool
+abbrev pub is_of : Incarnation → KeptNumber → Bool
 is_of i k = same_incarnation i (incarnation_of k)
 
-number_of-is : (t : Tuple) (client : ℕ) (k : KeptNumber) →
+pub number_of-is : (t : Tuple) (client : ℕ) (k : KeptNumber) →
     is_number_of t client k ≡ is_of (record { tuple = t; client = client }) k
 number_of-is t client k = same_incarnation-comm (incarnation_of k) (record { tuple = t; client = client })
 
 -- the numbers of a comparer, and which of them wait to be known, are those of a list
-record Tied (numbers : KeptNumbers) (unknown : List Incarnation) (kept : List KeptNumber) : Type 0 where
-  table : numbers ≡ table_of kept
-  known : (i : Incarnation) → is_known (find (is_of i) kept)
+pub record Tied (numbers : KeptNumbers) (unknown : List Incarnation) (kept : List KeptNumber) : Type 0 where
+  pub table : numbers ≡ table_of kept
+  pub known : (i : Incarnation) → is_known (find (is_of i) kept)
       ≡ (is_some (find (is_of i) kept) && not (list_any (same_incarnation i) unknown))
 
 -- the client of each current opening has a number
-abbrev AreNumbered : List TcpFields → List KeptNumber → Type 0
+abbrev pub AreNumbered : List TcpFields → List KeptNumber → Type 0
 AreNumbered said kept = (t : Tuple) (o : Opening) → opening_of t said ≡ Some o →
     is_some (find (is_of (record { tuple = t; client = o.client })) kept) ≡ true
 
-record Numbered (numbers : KeptNumbers) (unknown : List Incarnation) (said : List TcpFields)
+pub record Numbered (numbers : KeptNumbers) (unknown : List Incarnation) (said : List TcpFields)
     (kept : List KeptNumber) : Type 0 where
-  tied : Tied numbers unknown kept
-  are : AreNumbered said kept
+  pub tied : Tied numbers unknown kept
+  pub are : AreNumbered said kept
 
 through : (found found' : Option KeptNumber) (waits waits' : Bool) → found' ≡ found → waits' ≡ waits →
     is_known found ≡ (is_some found && not waits) → is_known found' ≡ (is_some found' && not waits')
@@ -62,7 +62,7 @@ through found found' waits waits' e f h =
     ap (λ (o : Option KeptNumber). is_known o) e
     ∙ (h ∙ sym (ap₂ (λ (o : Option KeptNumber) (b : Bool). is_some o && not b) e f))
 
-lookup-table : (i : Incarnation) (kept : List KeptNumber) →
+pub lookup-table : (i : Incarnation) (kept : List KeptNumber) →
     lookup (same_incarnation i) (table_of kept) ≡ option_map (λ (k : KeptNumber). k.number) (find (is_of i) kept)
 lookup-table i [] = refl
 lookup-table i (k ∷ kept) = by (is_of i k) (lookup-table i kept)
@@ -79,7 +79,7 @@ some_number None = refl
 some_number (Some k) = refl
 
 -- a client has a number in both or in neither
-has_number : (numbers : KeptNumbers) (unknown : List Incarnation) (kept : List KeptNumber) (i : Incarnation) →
+pub has_number : (numbers : KeptNumbers) (unknown : List Incarnation) (kept : List KeptNumber) (i : Incarnation) →
     Tied numbers unknown kept → is_some (lookup (same_incarnation i) numbers) ≡ is_some (find (is_of i) kept)
 has_number numbers unknown kept i h =
     ap (λ (ns : KeptNumbers). is_some (lookup (same_incarnation i) ns)) h.table
@@ -87,7 +87,7 @@ has_number numbers unknown kept i h =
 
 -- A NUMBER THAT IS KEPT NEWLY
 
-tied_push : (numbers : KeptNumbers) (unknown : List Incarnation) (kept : List KeptNumber) (new : KeptNumber) →
+pub tied_push : (numbers : KeptNumbers) (unknown : List Incarnation) (kept : List KeptNumber) (new : KeptNumber) →
     new.known ≡ false → is_some (find (is_of (incarnation_of new)) kept) ≡ false → Tied numbers unknown kept →
     Tied (numbers ++ (incarnation_of new, new.number) ∷ []) (insert_incarnation unknown (incarnation_of new))
     (kept ++ new ∷ [])
@@ -145,7 +145,7 @@ refusal_resets : (s : TcpFields) → is_refusal s ≡ true → has_rst s.flags �
 unfolding is_refusal
 refusal_resets s h = (and_parts (has_rst s.flags) (has_ack s.flags && s.seq == 0) h).0
 
-what_makes : (current : Option Opening) (known : Bool) (s : TcpFields) →
+pub what_makes : (current : Option Opening) (known : Bool) (s : TcpFields) →
     opening_made (what_of current known s) ≡ (if opens_anew current s then Some (opening_in s) else None)
 unfolding what_of
 what_makes current known s = by_refusal (is_refusal s) refl
@@ -198,16 +198,16 @@ unknown_if true numbers unknown t o = refl
 unknown_if false numbers unknown t o = refl
 
 -- the number that a segment's opening would have
-abbrev new_of : TcpFields → KeptNumber
+abbrev pub new_of : TcpFields → KeptNumber
 new_of s = record { tuple = tuple_of s; client = (opening_in s).client; number = s.seq; known = false }
 
-abbrev has_new : List KeptNumber → TcpFields → Bool
+abbrev pub has_new : List KeptNumber → TcpFields → Bool
 has_new kept s = is_some (find (is_of (incarnation_of (new_of s))) kept)
 
-abbrev is_new : List KeptNumber → TcpFields → Bool
+abbrev pub is_new : List KeptNumber → TcpFields → Bool
 is_new kept s = may_open s && not (has_new kept s)
 
-kept_then : (kept : List KeptNumber) (s : TcpFields) →
+pub kept_then : (kept : List KeptNumber) (s : TcpFields) →
     kept ++ new_number kept s ≡ (if is_new kept s then kept ++ new_of s ∷ [] else kept)
 unfolding new_number
 kept_then kept s =
@@ -222,13 +222,13 @@ kept_then kept s =
     by false = append-nil kept
 
 -- a current opening's client has a number
-current_has : (current : Option Opening) (said : List TcpFields) (kept : List KeptNumber) (s : TcpFields) →
+pub current_has : (current : Option Opening) (said : List TcpFields) (kept : List KeptNumber) (s : TcpFields) →
     current ≡ opening_of (tuple_of s) said → AreNumbered said kept →
     same_opening current (opening_in s) ≡ true → has_new kept s ≡ true
 current_has current said kept s e are same =
     are (tuple_of s) (opening_in s) (sym e ∙ same_opening_is current (opening_in s) same)
 
-numbers_then : (mine : Tracking) (numbers : KeptNumbers) (unknown : List Incarnation) (said : List TcpFields)
+pub numbers_then : (mine : Tracking) (numbers : KeptNumbers) (unknown : List Incarnation) (said : List TcpFields)
     (kept : List KeptNumber) (s : TcpFields) → current_at mine (tuple_of s) ≡ opening_of (tuple_of s) said →
     Tied numbers unknown kept → AreNumbered said kept → note_number numbers (took_in mine (Some s))
     ≡ (if is_new kept s then numbers ++ (incarnation_of (new_of s), s.seq) ∷ [] else numbers)
@@ -246,7 +246,7 @@ numbers_then mine numbers unknown said kept s e h are =
     ∙ choose (may_open s) same (has_new kept s) numbers (numbers ++ (incarnation_of (new_of s), s.seq) ∷ [])
     (λ opens is. current_has current said kept s e are is)))
 
-unknown_then : (mine : Tracking) (numbers : KeptNumbers) (unknown : List Incarnation) (said : List TcpFields)
+pub unknown_then : (mine : Tracking) (numbers : KeptNumbers) (unknown : List Incarnation) (said : List TcpFields)
     (kept : List KeptNumber) (s : TcpFields) → current_at mine (tuple_of s) ≡ opening_of (tuple_of s) said →
     Tied numbers unknown kept → AreNumbered said kept → note_unknown numbers unknown (took_in mine (Some s))
     ≡ (if is_new kept s then insert_incarnation unknown (incarnation_of (new_of s)) else unknown)
@@ -265,7 +265,7 @@ unknown_then mine numbers unknown said kept s e h are =
     ∙ choose (may_open s) same (has_new kept s) unknown (insert_incarnation unknown (incarnation_of (new_of s)))
     (λ opens is. current_has current said kept s e are is)))
 
-tied_then : (b : Bool) (numbers : KeptNumbers) (unknown : List Incarnation) (kept : List KeptNumber) (s : TcpFields) →
+pub tied_then : (b : Bool) (numbers : KeptNumbers) (unknown : List Incarnation) (kept : List KeptNumber) (s : TcpFields) →
     (b ≡ true → has_new kept s ≡ false) → Tied numbers unknown kept →
     Tied (if b then numbers ++ (incarnation_of (new_of s), s.seq) ∷ [] else numbers)
     (if b then insert_incarnation unknown (incarnation_of (new_of s)) else unknown)
@@ -273,7 +273,7 @@ tied_then : (b : Bool) (numbers : KeptNumbers) (unknown : List Incarnation) (kep
 tied_then true numbers unknown kept s absent h = tied_push numbers unknown kept (new_of s) refl (absent refl) h
 tied_then false numbers unknown kept s absent h = h
 
-found_stays : (i : Incarnation) (kept : List KeptNumber) (new : KeptNumber) (b : Bool) →
+pub found_stays : (i : Incarnation) (kept : List KeptNumber) (new : KeptNumber) (b : Bool) →
     is_some (find (is_of i) kept) ≡ true → is_some (find (is_of i) (if b then kept ++ new ∷ [] else kept)) ≡ true
 found_stays i kept new false h = h
 found_stays i kept new true h =
@@ -285,7 +285,7 @@ found_stays i kept new true h =
     by (Some k) h = refl
 
 -- after a segment that may open, its client has a number
-opened_has : (kept : List KeptNumber) (s : TcpFields) → may_open s ≡ true →
+pub opened_has : (kept : List KeptNumber) (s : TcpFields) → may_open s ≡ true →
     is_some (find (is_of (incarnation_of (new_of s))) (if is_new kept s then kept ++ new_of s ∷ [] else kept)) ≡ true
 opened_has kept s opens = by (has_new kept s) refl
   where
@@ -311,7 +311,7 @@ opened_has kept s opens = by (has_new kept s) refl
 some-same : (o p : Opening) → Some o ≡ Some p → o ≡ p
 some-same o p e = cc
 
-are_then : (said : List TcpFields) (kept : List KeptNumber) (s : TcpFields) → AreNumbered said kept →
+pub are_then : (said : List TcpFields) (kept : List KeptNumber) (s : TcpFields) → AreNumbered said kept →
     AreNumbered (said ++ s ∷ []) (if is_new kept s then kept ++ new_of s ∷ [] else kept)
 are_then said kept s are t o e =
     by (same_tuple (tuple_of s) t) refl (may_open s) refl (sym (opening_more t said s) ∙ e)
@@ -333,7 +333,7 @@ are_then said kept s are t o e =
     by true same false opens e = old e
     by false same m opens e = old e
 
-sends_one : (mine : Tracking) (numbers : KeptNumbers) (unknown : List Incarnation) (said : List TcpFields)
+pub sends_one : (mine : Tracking) (numbers : KeptNumbers) (unknown : List Incarnation) (said : List TcpFields)
     (kept : List KeptNumber) (o : Option TcpFields) → ((t : Tuple) → current_at mine t ≡ opening_of t said) →
     Numbered numbers unknown said kept →
     Numbered (note_number numbers (took_in mine o)) (note_unknown numbers unknown (took_in mine o))
@@ -379,7 +379,7 @@ table-filter q r same (k ∷ kept) =
     by true more = ap (λ (ns : KeptNumbers). (incarnation_of k, k.number) ∷ ns) more
     by false more = more
 
-thins : (numbers : KeptNumbers) (unknown : List Incarnation) (said : List TcpFields) (kept : List KeptNumber)
+pub thins : (numbers : KeptNumbers) (unknown : List Incarnation) (said : List TcpFields) (kept : List KeptNumber)
     (q : KeptNumber → Bool) (r : Incarnation → Bool) → ((k : KeptNumber) → q k ≡ r (incarnation_of k)) →
     ((t : Tuple) (o : Opening) → opening_of t said ≡ Some o → r (record { tuple = t; client = o.client }) ≡ true) →
     Numbered numbers unknown said kept →
@@ -411,9 +411,9 @@ thins numbers unknown said kept q r same stays h = record {
 -- NUMBERS THAT ARE KNOWN
 
 -- the same numbers, of which some more are known
-record KeepsKeys (f : KeptNumber → KeptNumber) : Type 0 where
-  key : (k : KeptNumber) → incarnation_of (f k) ≡ incarnation_of k
-  number : (k : KeptNumber) → (f k).number ≡ k.number
+pub record KeepsKeys (f : KeptNumber → KeptNumber) : Type 0 where
+  pub key : (k : KeptNumber) → incarnation_of (f k) ≡ incarnation_of k
+  pub number : (k : KeptNumber) → (f k).number ≡ k.number
 
 table-map : (f : KeptNumber → KeptNumber) → KeepsKeys f → (kept : List KeptNumber) →
     table_of (map f kept) ≡ table_of kept
@@ -431,7 +431,7 @@ still_some : (f : KeptNumber → KeptNumber) (o : Option KeptNumber) → is_some
 still_some f None = refl
 still_some f (Some k) = refl
 
-knows_more : (numbers : KeptNumbers) (unknown now : List Incarnation) (said : List TcpFields) (kept : List KeptNumber)
+pub knows_more : (numbers : KeptNumbers) (unknown now : List Incarnation) (said : List TcpFields) (kept : List KeptNumber)
     (f : KeptNumber → KeptNumber) → KeepsKeys f → Numbered numbers unknown said kept →
     ((i : Incarnation) (k : KeptNumber) → find (is_of i) kept ≡ Some k →
     (f k).known ≡ not (list_any (same_incarnation i) now)) → Numbered numbers now said (map f kept)
@@ -472,7 +472,7 @@ abbrev unknown_still : Bool → List Incarnation → Incarnation → List Incarn
 unknown_still b unknown j =
     if b then filter (λ (i : Incarnation). not (same_incarnation i j)) unknown else unknown
 
-learns_one : (numbers : KeptNumbers) (unknown : List Incarnation) (said : List TcpFields) (kept : List KeptNumber)
+pub learns_one : (numbers : KeptNumbers) (unknown : List Incarnation) (said : List TcpFields) (kept : List KeptNumber)
     (t : Tuple) (client number : ℕ) → Numbered numbers unknown said kept →
     Numbered numbers (unknown_still (is_kept (number_of numbers t client) number) unknown
     (record { tuple = t; client = client })) said (learn_number kept t client number)
@@ -536,7 +536,7 @@ learns_one numbers unknown said kept t client number h = knows_more numbers unkn
 all_known : KeptNumber → KeptNumber
 all_known k = record k { known = true }
 
-learns_all : (numbers : KeptNumbers) (unknown : List Incarnation) (said : List TcpFields) (kept : List KeptNumber) →
+pub learns_all : (numbers : KeptNumbers) (unknown : List Incarnation) (said : List TcpFields) (kept : List KeptNumber) →
     Numbered numbers unknown said kept → Numbered numbers [] said (learn_all kept)
 unfolding all_known
 learns_all numbers unknown said kept h = knows_more numbers unknown [] said kept all_known
@@ -644,7 +644,7 @@ knows_numbers calls is_turn t client =
 
 -- THE NUMBERS THAT A SETTLING READS
 
-number_is : (kept : List KeptNumber) (t : Tuple) (client : ℕ) →
+pub number_is : (kept : List KeptNumber) (t : Tuple) (client : ℕ) →
     unwrap_or (number_of (table_of kept) t client) 0 ≡ number_or_zero (kept_number t client kept)
 number_is kept t client =
     let i : Incarnation = record { tuple = t; client = client } in

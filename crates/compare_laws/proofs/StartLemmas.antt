@@ -34,7 +34,7 @@ abbrev pub IsDistinct : List Tuple → Type 0
 IsDistinct [] = ⊤
 IsDistinct (t ∷ ts) = (list_any (same_tuple t) ts ≡ false) × IsDistinct ts
 
-distinct_push : (ts : List Tuple) (u : Tuple) → list_any (same_tuple u) ts ≡ false → IsDistinct ts →
+pub distinct_push : (ts : List Tuple) (u : Tuple) → list_any (same_tuple u) ts ≡ false → IsDistinct ts →
     IsDistinct (ts ++ u ∷ [])
 distinct_push [] u h d = (refl, tt)
 distinct_push (t ∷ ts) u h d =

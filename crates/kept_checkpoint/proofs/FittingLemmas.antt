@@ -1,7 +1,7 @@
 -- What fits is loaded as it is spelled, however many places were kept.
 use Rattle.std.proofs.Common.{◌≡◌, ℕ, zero, suc, ◌+◌, ◌/◌, ◌<◌, ◌≤◌, List, [], ◌∷◌, length, refl, ap, ◌∙◌, arith, true}
 use Rattle.std.specs.Prelude.{nat_le, nat_lt, slice_set, unwrap_or}
-use Rattle.std.proofs.lemmas.Bool.{leb-true, ltb-true}
+use Rattle.std.proofs.lemmas.Bool.{false≢true, leb-true, ltb-true}
 use Rattle.state_wire.specs.Guest.{Meaning, with_bytes}
 use Rattle.colo_wire.specs.declared.messages.Message.{Message}
 use Rattle.colo_wire.specs.declared.messages.Message.TheVariants.{Frame, Number, Begin, State, Page, Disk, Write, Held, Line, Bytes, End, Known, Sent, Ack}
@@ -38,7 +38,7 @@ sectors_fit k n e = leb-true k n e
 
 -- one message
 pub spells_fitting : (g : Meaning) (kept : Kept) (m : Message) → fits kept m ≡ true →
-    load_kept g (keep kept m) ≡ spell (load_kept g kept) m
+    load_kept g (keep kept m) ≡ record g { state = spell (load_kept g kept).state m }
 unfolding load_kept
 spells_fitting g kept (Page k bytes) h =
     ap (λ (xs : List (List ℕ)). record g {
@@ -65,7 +65,7 @@ spells_fitting g kept (Bytes bytes) h = refl
 spells_fitting g kept (Frame index seen trim frame) h = refl
 spells_fitting g kept (Number tuple client number) h = refl
 spells_fitting g kept (Begin e) h = refl
-spells_fitting g kept (State bytes) h = refl
+spells_fitting g kept (State bytes) h = absurd (false≢true h)
 spells_fitting g kept (Write k bytes) h = refl
 spells_fitting g kept (End e) h = refl
 spells_fitting g kept (Known tuple client number) h = refl

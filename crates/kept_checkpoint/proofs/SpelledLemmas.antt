@@ -6,7 +6,7 @@ use Rattle.colo_wire.specs.declared.messages.Message.{Message}
 use Rattle.colo_wire.specs.declared.messages.Message.TheVariants.{Frame, Number, Begin, State, Page, Disk, Write, Held, Line, Bytes, End, Known, Sent, Ack}
 use Rattle.kept_checkpoint.specs.Kept.{Kept, begin_kept, keep, keep_all, load_kept}
 use Rattle.kept_checkpoint.specs.Slots.{Slots, no_parts, over, put_part, put_sectors, sector_at, sector_size}
-use Rattle.kept_checkpoint.specs.Spelled.{LoadsWhatIsSpelled, set_sectors, spell}
+use Rattle.kept_checkpoint.specs.Spelled.{LoadsWhatIsSpelled, set_sectors, spell_part}
 
 over_put : (olds : List (List ℕ)) (slots : Slots) (k : ℕ) (x : List ℕ) → length slots ≡ length olds →
     over olds (put_part slots k x) ≡ slice_set (over olds slots) k x
@@ -62,7 +62,7 @@ keeps_for g kept (Sent frame) h = h
 keeps_for g kept (Ack e) h = h
 
 spells_one : (g : Meaning) (kept : Kept) (m : Message) → IsFor g kept →
-    load_kept g (keep kept m) ≡ spell (load_kept g kept) m
+    load_kept g (keep kept m) ≡ record g { state = spell_part (load_kept g kept).state m }
 unfolding load_kept
 spells_one g kept (Page k bytes) h =
     ap (λ (xs : List (List ℕ)). record g {
@@ -96,12 +96,13 @@ spells_one g kept (Sent frame) h = refl
 spells_one g kept (Ack e) h = refl
 
 spells_all : (g : Meaning) (kept : Kept) (messages : List Message) → IsFor g kept →
-    load_kept g (keep_all kept messages) ≡ fold spell (load_kept g kept) messages
-unfolding keep_all
+    load_kept g (keep_all kept messages)
+    ≡ record g { state = fold spell_part (load_kept g kept).state messages }
+unfolding keep_all load_kept
 spells_all g kept [] h = refl
 spells_all g kept (m ∷ messages) h =
     spells_all g (keep kept m) messages (keeps_for g kept m h)
-    ∙ ap (λ (x : Meaning). fold spell x messages) (spells_one g kept m h)
+    ∙ ap (λ (x : Meaning). record g { state = fold spell_part x.state messages }) (spells_one g kept m h)
 
 none_length : (n : ℕ) → length (no_parts n) ≡ n
 none_length zero = refl
@@ -136,4 +137,4 @@ pub loads_spelled : LoadsWhatIsSpelled
 loads_spelled g state messages =
     spells_all g (begin_kept state (length g.state.pages) (length g.state.sectors)) messages
     (record { pages = none_length (length g.state.pages); sectors = none_length (length g.state.sectors) })
-    ∙ ap (λ (x : Meaning). fold spell x messages) (begins g state)
+    ∙ ap (λ (x : Meaning). record g { state = fold spell_part x.state messages }) (begins g state)

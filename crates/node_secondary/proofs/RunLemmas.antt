@@ -5,7 +5,7 @@ use Rattle.std.specs.Prelude.{if◌then◌else◌, ⊤}
 use Rattle.std.proofs.Math.Nat.{mod-add-mod}
 use Rattle.std.proofs.lemmas.Bool.{false≢true}
 use Rattle.std.proofs.lemmas.List.Sums.{fold_push}
-use Rattle.state_wire.specs.Guest.{GuestState, GuestTurn, Kind, Meaning, with_bytes}
+use Rattle.state_wire.specs.Guest.{GuestState, GuestTurn, Kind, Meaning}
 use Rattle.state_wire.specs.Run.{Run, run, run_turn}
 use Rattle.colo_wire.specs.declared.messages.Message.{Message}
 use Rattle.colo_wire.specs.declared.messages.Message.TheVariants.{Frame, Number, Begin, State, Page, Disk, Write, Held, Line, Bytes, End, Known, Sent, Ack}
@@ -82,7 +82,7 @@ counts_all n (made t ∷ calls) =
 abbrev IsSpelled : UnderWay → Past → Type 0
 IsSpelled Nothing p = ⊤
 IsSpelled Begun p = ⊤
-IsSpelled (Heard kept) p = (g : Meaning) → load_kept g kept ≡ spelled g p
+IsSpelled (Heard kept) p = (g : Meaning) → load_kept g kept ≡ record g { state = spelled g.state p }
 
 record Stands (kind : Kind) (n : Node) (p : Past) : Type 0 where
   same_kind : n.guest.kind ≡ kind
@@ -133,7 +133,8 @@ part_spelled : (u : UnderWay) (p : Past) (m : Message) → IsFitting u m → IsS
 part_spelled Nothing p m fit h = absurd fit
 part_spelled Begun p m fit h = absurd fit
 part_spelled (Heard kept) p m fit h = λ (g : Meaning). spells_fitting g kept m fit
-    ∙ (ap (λ (x : Meaning). spell x m) (h g) ∙ sym (fold_push spell (with_bytes g p.bytes) p.parts m))
+    ∙ (ap (λ (x : Meaning). record g { state = spell x.state m }) (h g)
+    ∙ ap (λ (x : GuestState). record g { state = x }) (sym (fold_push spell g.state (State p.bytes ∷ p.parts) m)))
 
 part_stands : (kind : Kind) (n : Node) (p : Past) (m : Message) →
     is_due_outside (next_checkpoint n.committed) m ≡ false →
@@ -149,7 +150,7 @@ part_stands kind n p m outside begun within h s = record {
 
 commit_stands : (kind : Kind) (n : Node) (p : Past) (e next : ℕ) (u : UnderWay) → n.guest.kind ≡ kind →
     is_due_at n.guest.kind next u (End e) ≡ true → IsSpelled u p →
-    Stands kind (commit n e u) (record p { from = (spelled n.guest p).state; turns = [] })
+    Stands kind (commit n e u) (record p { from = spelled n.guest.state p; turns = [] })
 unfolding load_kept run
 commit_stands kind n p e next Nothing same h spells = absurd (false≢true h)
 commit_stands kind n p e next Begun same h spells = absurd (false≢true h)

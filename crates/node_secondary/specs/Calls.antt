@@ -1,7 +1,7 @@
 -- Lists of calls: messages that are heard and turns that are made, in any order. What its guest's
 -- state is after them, from what the messages of the last checkpoint spell.
 use Rattle.std.specs.Prelude.{◌≡◌, ℕ, suc, ◌+◌, ◌%◌, ◌^◌, if◌then◌else◌, List, [], ◌∷◌, ◌++◌, fold}
-use Rattle.state_wire.specs.Guest.{GuestState, GuestTurn, Meaning, with_bytes}
+use Rattle.state_wire.specs.Guest.{GuestState, GuestTurn, Meaning}
 use Rattle.state_wire.specs.Run.{run}
 use Rattle.colo_wire.specs.declared.messages.Message.{Message}
 use Rattle.colo_wire.specs.declared.messages.Message.TheVariants.{Frame, Number, Begin, State, End}
@@ -52,8 +52,8 @@ abbrev pub no_past : Node → Past
 no_past n = record { from = n.guest.state; turns = []; bytes = []; parts = [] }
 
 -- what a checkpoint's messages spell: each part as it was heard last, over what stood there
-abbrev pub spelled : Meaning → Past → Meaning
-spelled guest p = fold spell (with_bytes guest p.bytes) p.parts
+abbrev pub spelled : GuestState → Past → GuestState
+spelled state p = fold spell state (State p.bytes ∷ p.parts)
 
 -- a message that was due: the end of a checkpoint begins a new run
 abbrev pub past_heard : Node → Past → Message → Past
@@ -61,7 +61,7 @@ past_heard n p (Frame index seen trim frame) = p
 past_heard n p (Number tuple client number) = p
 past_heard n p (Begin e) = p
 past_heard n p (State bytes) = record p { bytes = bytes; parts = [] }
-past_heard n p (End e) = record p { from = (spelled n.guest p).state; turns = [] }
+past_heard n p (End e) = record p { from = spelled n.guest.state p; turns = [] }
 past_heard n p part = record p { parts = p.parts ++ part ∷ [] }
 
 abbrev pub past_call : Node → Past → Call → Past

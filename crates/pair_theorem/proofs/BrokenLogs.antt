@@ -13,11 +13,12 @@ use Rattle.state_wire.specs.Guest.{GuestState, GuestTurn, Kind}
 use Rattle.state_wire.specs.Script.{script_next}
 use Rattle.pair_theorem.specs.History.{entries, lines_of, pair_log}
 use Rattle.replay_log.specs.declared.lines.Line.{Line}
+use Rattle.replay_log.specs.declared.lines.Line.TheVariants.{Primary}
 use Rattle.replay_log.specs.declared.records.Answer.{Answer}
 use Rattle.replay_log.specs.declared.records.Answer.TheVariants.{Made, HeardBack}
 use Rattle.replay_log.specs.declared.records.Mark.{Mark}
 use Rattle.replay_log.specs.declared.records.Mark.TheVariants.{Captured}
-use Rattle.pair_theorem.specs.LogParts.{causes_in, counts_released, counts_stated, marks_that, LogPart, MarksPart, capture_marks, is_captured, nodes_at, survivor_state}
+use Rattle.pair_theorem.specs.LogParts.{accepted_indices, causes_in, counts_released, counts_stated, marks_that, LogPart, MarksPart, capture_marks, is_captured, nodes_at, survivor_state}
 use Rattle.pair_theorem.specs.Past.{Start, Step, boot}
 use Rattle.pair_theorem.specs.Places.{Place, delivered_due, delivered_in, events, places}
 use Rattle.pair_theorem.specs.TheRun.{run_segments}
@@ -158,6 +159,51 @@ unfolding told_log
 a_frame_that_the_run_never_took = record {
   broken = names_break deaf_start deaf_steps deaf_missing;
   others = others_from names_part deaf_start opening_lines deaf_steps deaf_lines deaf_delivered deaf_others;
+}
+
+-- NAMES: a frame that was accepted before the start and waits in its inbox, which the run never takes
+unfoldable pub inbox_start : Start
+unfolding deaf_start client_syn
+inbox_start =
+    record deaf_start {
+      next = 1;
+      inbox = record { index = 0; seen = None; trim = 0; frame = client_syn } ∷ [];
+    }
+
+abbrev pub one_turn_lines : List Line
+one_turn_lines = Primary 1 true 0 0 ∷ []
+
+unfoldable pub lost_inbox_steps : List Step
+unfolding pair_log inbox_start
+lost_inbox_steps = edit_at 0 (with_answer (Made None 0)) (pair_log inbox_start one_turn_lines)
+
+lost_inbox_lines : lines_of lost_inbox_steps ≡ one_turn_lines
+unfolding lost_inbox_steps
+lost_inbox_lines = refl
+
+lost_inbox_delivered : delivered_in lost_inbox_steps ≡ delivered_due (events inbox_start lost_inbox_steps)
+unfolding lost_inbox_steps events inbox_start
+lost_inbox_delivered = refl
+
+lost_inbox_others : passes_others names_part inbox_start lost_inbox_steps ≡ true
+unfolding inbox_start lost_inbox_steps passes_others
+lost_inbox_others = refl
+
+lost_inbox_missing : missing_test inbox_start lost_inbox_steps ≡ false
+unfolding inbox_start lost_inbox_steps missing_test
+lost_inbox_missing = refl
+
+-- none was accepted in the log itself
+none_accepted_since : accepted_indices lost_inbox_steps ≡ []
+unfolding lost_inbox_steps
+none_accepted_since = refl
+
+pub a_frame_of_the_start_that_is_lost : BreaksOnly names_part (told_log inbox_start one_turn_lines lost_inbox_steps)
+unfolding told_log
+a_frame_of_the_start_that_is_lost = record {
+  broken = names_break inbox_start lost_inbox_steps lost_inbox_missing;
+  others = others_from names_part inbox_start one_turn_lines lost_inbox_steps lost_inbox_lines lost_inbox_delivered
+      lost_inbox_others;
 }
 
 -- SHAPE: a segment to a MAC address of no byte

@@ -1,6 +1,7 @@
 -- What each event may be: a property of every event's outcome is shown case by case.
-use Rattle.std.proofs.Common.{◌≡◌, ℕ, ◌||◌, if◌then◌else◌, not, ◌&&◌, nat_le, Bool, true, false, List, [], ◌∷◌, Option, None, Some, refl, slice_get, length}
+use Rattle.std.proofs.Common.{◌≡◌, ℕ, ◌||◌, if◌then◌else◌, not, ◌&&◌, nat_le, Bool, true, false, List, [], ◌∷◌, ◌++◌, Option, None, Some, refl, slice_get, length}
 use Rattle.std.proofs.lemmas.Bool.{cond_both, or_parts, and_parts, not-true}
+use Rattle.colo_base.specs.declared.fault.Cause.{Cause}
 use Rattle.colo_base.specs.declared.fault.Cause.TheVariants.{Asked}
 use Rattle.inet_frame.specs.Counted.{tcp_in}
 use Rattle.settle_rules.specs.Release.{reply}
@@ -13,13 +14,16 @@ use Rattle.frame_mirror.specs.Accepted.{entry_of}
 use Rattle.frame_mirror.specs.declared.ring.Waiting.{Waiting}
 use Rattle.frame_mirror.specs.declared.ring.TheConstants.{INBOX_ROOM}
 use Rattle.pair_theorem.specs.ClientFrames.{trims_by}
-use Rattle.pair_theorem.specs.Events.{accept_by, ask_event, client_entry, client_event, deliver_down, deliver_up, is_ack_message, look_at, numbers_of, outcome_of, outcome_with, passed_frame, primary_event, primary_hears, primary_survives, turn_primary, report_event, secondary_event, secondary_hears, secondary_survives, turn_secondary, turn_survivor, take_frame, taking_inbox, waiting_of}
+use Rattle.pair_theorem.specs.Events.{Ended, accept_by, ask_event, client_entry, client_event, deliver_down, deliver_up, is_ack_message, look_at, mark_cause, numbers_of, outcome_of, outcome_with, passed_frame, primary_event, primary_hears, primary_survives, turn_primary, report_event, secondary_event, secondary_hears, secondary_survives, turn_secondary, turn_survivor, take_frame, taking_inbox, waiting_of}
 use Rattle.pair_theorem.specs.GuestTurns.{turn_from}
 use Rattle.replay_log.specs.declared.lines.Line.{Line}
 use Rattle.replay_log.specs.declared.lines.Line.TheVariants.{Primary, Secondary, Client, ToSecondary, ToPrimary, StopPrimary, StopSecondary, Report, Ask}
+use Rattle.replay_log.specs.declared.records.Answer.{Answer}
 use Rattle.replay_log.specs.declared.records.Answer.TheVariants.{Nothing, Accepted, Arp, Dropped, Full, Lost, HeardBack, Zero, Reported}
+use Rattle.replay_log.specs.declared.records.Mark.{Mark}
 use Rattle.replay_log.specs.declared.records.Mark.TheVariants.{Captured}
 use Rattle.colo_wire.specs.declared.messages.Message.{Message}
+use Rattle.pair_theorem.specs.Log.{is_report, is_stop}
 use Rattle.pair_theorem.specs.Messages.{number_of}
 use Rattle.pair_theorem.specs.Past.{Outcome, Past, is_primary_stop, is_secondary_stop, primary_stop, secondary_stop, quietly, secondary_releases, silently, step_with}
 
@@ -52,6 +56,34 @@ abbrev pub survivor_made : Kind → Past → ℕ → Bool → ℕ → ℕ → Ou
 survivor_made kind past d i b n =
     turn_survivor past (Secondary d i b n) (turn_from kind past.secondary past.secondary_inbox i (numbers_of d b n))
 
+-- an event that settled, where nothing is a cause, and where something is
+abbrev pub uncaused : Line → List Mark → Option Message → (ℕ → Answer) → Ended → Outcome
+uncaused x marks delivered answer e = record {
+  after = e.after;
+  step = step_with x (answer (length e.out)) marks delivered e.out;
+  cause = None;
+  agreed = e.agreed;
+}
+
+abbrev pub caused : Cause → Line → List Mark → Option Message → (ℕ → Answer) → Ended → Outcome
+caused why x marks delivered answer e = record {
+  after = capture e.after;
+  step = step_with x (answer (length e.out)) (marks ++ Captured (next_capture e.after) why ∷ []) delivered e.out;
+  cause = Some why;
+  agreed = e.agreed;
+}
+
+pub settled_case : (P : Outcome → Type 0) (x : Line) (marks : List Mark) (delivered : Option Message)
+    (answer : ℕ → Answer) (e : Ended) → (e.cause ≡ None → P (uncaused x marks delivered answer e))
+    → ((why : Cause) → e.cause ≡ Some why → P (caused why x marks delivered answer e))
+    → P (outcome_with x marks delivered answer e)
+unfolding outcome_with mark_cause
+settled_case P x marks delivered answer e none some = by e.cause refl
+  where
+    by : (why : Option Cause) → e.cause ≡ why → P (mark_cause why x marks delivered answer e)
+    by None h = none h
+    by (Some why) h = some why h
+
 -- a client event takes a frame of the stream: no report of the primary's stop is outstanding
 abbrev pub TakesFrame : List (List ℕ) → Past → List ℕ → Type 0
 TakesFrame stream past frame =
@@ -59,7 +91,7 @@ TakesFrame stream past frame =
 
 -- Each case has the tests that led to it.
 pub record Cases (kind : Kind) (stream : List (List ℕ)) (P : Claim) : Type 0 where
-  pub idle : (past : Past) (x : Line) → P past x (silently past x Nothing None)
+  pub idle : (past : Past) (x : Line) → is_stop x ≡ false → is_report x ≡ false → P past x (silently past x Nothing None)
   pub primary_turn : (past : Past) (d : ℕ) (i : Bool) (b n : ℕ) → is_primary_stop past.stop ≡ false
       → past.awaits_ack ≡ false → P past (Primary d i b n) (primary_made kind past d i b n)
   pub secondary_turn : (past : Past) (d : ℕ) (i : Bool) (b n : ℕ) → is_secondary_stop past.stop ≡ false
@@ -121,7 +153,7 @@ entry_case kind stream P h past frame (entry.Drop w) t e = h.drops past frame w 
 client_case : (kind : Kind) (stream : List (List ℕ)) (P : Claim) → Cases kind stream P → (past : Past)
     (frame : Option (List ℕ)) → slice_get stream past.next ≡ frame → P past Client (client_event past frame)
 unfolding client_event
-client_case kind stream P h past None at = h.idle past Client
+client_case kind stream P h past None at = h.idle past Client refl refl
 client_case kind stream P h past (Some frame) at =
     cond_both (is_primary_stop past.stop && not past.is_reported)
     (silently (passed_frame past) Client (Lost past.next) None) (client_entry past (entry_of frame)) (P past Client)
@@ -133,14 +165,14 @@ down_case : (kind : Kind) (stream : List (List ℕ)) (P : Claim) → Cases kind 
     → (past : Past) (ms : List Message) → past.to_secondary ≡ ms
     → is_secondary_stop past.stop ≡ false → past.is_reported ≡ false → P past ToSecondary (deliver_down past ms)
 unfolding deliver_down
-down_case kind stream P h past [] e running alone = h.idle past ToSecondary
+down_case kind stream P h past [] e running alone = h.idle past ToSecondary refl refl
 down_case kind stream P h past (m ∷ ms) e running alone = h.secondary_hears past m ms e running alone
 
 up_case : (kind : Kind) (stream : List (List ℕ)) (P : Claim) → Cases kind stream P
     → (past : Past) (ms : List Message) → past.to_primary ≡ ms
     → is_primary_stop past.stop ≡ false → past.is_reported ≡ false → P past ToPrimary (deliver_up past ms)
 unfolding deliver_up
-up_case kind stream P h past [] e running alone = h.idle past ToPrimary
+up_case kind stream P h past [] e running alone = h.idle past ToPrimary refl refl
 up_case kind stream P h past (m ∷ ms) e running alone =
     cond_both (past.awaits_ack && not (is_ack_message m))
     (silently (record past { to_primary = ms }) ToPrimary (HeardBack (number_of m) past.sent_heard 0) (Some m))
@@ -156,7 +188,7 @@ unfolding primary_event
 primary_case kind stream P h past d i b n =
     cond_both (is_primary_stop past.stop || past.awaits_ack) (silently past (Primary d i b n) Nothing None)
     (primary_made kind past d i b n) (P past (Primary d i b n))
-    (λ e. h.idle past (Primary d i b n))
+    (λ e. h.idle past (Primary d i b n) refl refl)
     (λ e. let parts =
     or_parts (is_primary_stop past.stop) past.awaits_ack e in h.primary_turn past d i b n parts.0 parts.1)
 
@@ -168,7 +200,7 @@ secondary_case kind stream P h past d i b n =
     cond_both (is_secondary_stop past.stop) (silently past (Secondary d i b n) Nothing None)
     (if secondary_releases past then survivor_made kind past d i b n else secondary_made kind past d i b n)
     (P past (Secondary d i b n))
-    (λ e. h.idle past (Secondary d i b n))
+    (λ e. h.idle past (Secondary d i b n) refl refl)
     (λ e. cond_both (secondary_releases past) (survivor_made kind past d i b n) (secondary_made kind past d i b n)
     (P past (Secondary d i b n)) (λ f. h.survivor_turn past d i b n f) (λ f. h.secondary_turn past d i b n e f))
 
@@ -187,7 +219,7 @@ ask_case kind stream P h past =
     cond_both (past.awaits_ack || (is_primary_stop past.stop || is_secondary_stop past.stop))
     (silently past Ask Nothing None)
     (asked_outcome past) (P past Ask)
-    (λ e. h.idle past Ask)
+    (λ e. h.idle past Ask refl refl)
     (λ e. let outer = or_parts past.awaits_ack (is_primary_stop past.stop || is_secondary_stop past.stop) e in
     let inner = or_parts (is_primary_stop past.stop) (is_secondary_stop past.stop) outer.1 in
     h.asks past outer.0 inner.0 inner.1)
@@ -202,13 +234,13 @@ each_case kind stream P h past Client = client_case kind stream P h past (slice_
 each_case kind stream P h past ToSecondary =
     cond_both (is_secondary_stop past.stop || past.is_reported) (silently past ToSecondary Nothing None)
     (deliver_down past past.to_secondary) (P past ToSecondary)
-    (λ e. h.idle past ToSecondary)
+    (λ e. h.idle past ToSecondary refl refl)
     (λ e. let parts = or_parts (is_secondary_stop past.stop) past.is_reported e in
     down_case kind stream P h past past.to_secondary refl parts.0 parts.1)
 each_case kind stream P h past ToPrimary =
     cond_both (is_primary_stop past.stop || past.is_reported) (silently past ToPrimary Nothing None)
     (deliver_up past past.to_primary) (P past ToPrimary)
-    (λ e. h.idle past ToPrimary)
+    (λ e. h.idle past ToPrimary refl refl)
     (λ e. let parts = or_parts (is_primary_stop past.stop) past.is_reported e in
     up_case kind stream P h past past.to_primary refl parts.0 parts.1)
 each_case kind stream P h past StopPrimary = h.primary_stops past

@@ -345,7 +345,7 @@ answered_facts past b = record {
 
 facts : (kind : Kind) (stream : List (List ℕ)) → Cases kind stream EventFacts
 facts kind stream = record {
-  idle = idle_facts;
+  idle = λ past x e f. idle_facts past x;
   primary_turn =
       λ past d i b n e f. primary_facts kind past d i b n
       (turn_from kind past.primary past.primary_inbox i (numbers_of d b n));

@@ -20,10 +20,13 @@ pub mod NextStartRow
 pub mod CheckpointRows
 pub mod PrimaryRunsRow
 pub mod Alternatives
+pub mod SplicingBreaks
 pub mod ResetRows
 pub mod ReturnRow
 pub mod HistoryLemmas
 pub mod EventCases
 pub mod EventFacts
+pub mod MessageCases
 pub mod EachLog
+pub mod EachHistory
 pub mod RunLemmas

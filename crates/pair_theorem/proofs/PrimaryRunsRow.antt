@@ -1,10 +1,11 @@
 -- The whole theorem of the pair on a log that ends with a commit; and logs that break what it says of both guests.
-use Rattle.std.proofs.Common.{◌≡◌, ℕ, ◌+◌, ◌==◌, ◌&&◌, Bool, true, false, sym, ap, ◌∙◌, List, [], ◌∷◌, ◌++◌, fold, sum, refl, eqb-true, arith}
+use Rattle.std.proofs.Common.{◌≡◌, ℕ, ◌+◌, ◌==◌, ◌&&◌, Bool, true, sym, ap, ◌∙◌, List, [], ◌∷◌, ◌++◌, fold, sum, refl, eqb-true, arith}
 use Rattle.std.proofs.lemmas.Bool.{and_parts}
+use Rattle.kept_checkpoint.specs.Spelled.{spell}
 use Rattle.pair_theorem.specs.History.{entries, pair_log}
 use Rattle.replay_log.specs.declared.lines.Line.{Line}
 use Rattle.replay_log.specs.declared.lines.Line.TheVariants.{ToSecondary}
-use Rattle.pair_theorem.specs.LogParts.{count_on, GuestsPart, Nodes, SecondaryPart, ToldPart, files_of, nodes_at, spell, told_secondary, turns_of_primary, turns_of_secondary}
+use Rattle.pair_theorem.specs.LogParts.{count_on, GuestsPart, Nodes, SecondaryPart, ToldPart, files_of, nodes_at, told_secondary, turns_of_primary, turns_of_secondary}
 use Rattle.pair_theorem.specs.Past.{Start, Step}
 use Rattle.splice_run.specs.Single.{secondary_turns}
 use Rattle.pair_theorem.specs.TheRun.{run_of}

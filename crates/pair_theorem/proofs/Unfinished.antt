@@ -9,7 +9,7 @@ use Rattle.colo_wire.specs.declared.messages.Message.{Message}
 use Rattle.colo_wire.specs.declared.messages.Message.TheVariants.{Frame, Number, Begin, State, Page, Disk, Write, Held, Bytes, End, Known, Sent, Ack}
 use Rattle.colo_wire.specs.declared.messages.Message.TheVariants as message
 use Rattle.replay_log.specs.declared.lines.Line.{Line}
-use Rattle.replay_log.specs.declared.lines.Line.TheVariants.{Primary, Secondary, ToSecondary, ToPrimary, Report, Ask}
+use Rattle.replay_log.specs.declared.lines.Line.TheVariants.{Primary, Secondary, ToSecondary, ToPrimary, Report}
 use Rattle.replay_log.specs.declared.records.Answer.{Answer}
 use Rattle.replay_log.specs.declared.records.Answer.TheVariants.{Made, HeardBack, Reported}
 use Rattle.replay_log.specs.declared.records.Mark.{Mark}
@@ -19,7 +19,7 @@ use Rattle.pair_theorem.specs.Events.{Ended, ack_ended, ended_by, known_ended, m
 use Rattle.pair_theorem.specs.GuestTurns.{TurnMade, turn_from}
 use Rattle.pair_theorem.specs.History.{pair_log, steps_from}
 use Rattle.pair_theorem.specs.Log.{is_report}
-use Rattle.pair_theorem.specs.Past.{Outcome, Past, Start, first_past}
+use Rattle.pair_theorem.specs.Past.{Past, Start, first_past}
 use Rattle.pair_theorem.specs.Places.{Event, events, events_from}
 use Rattle.pair_theorem.specs.Splicing.{ChangesNothing, IsUnchanged, is_part}
 use Rattle.pair_theorem.proofs.EventCases.{Cases, Claim, asked_outcome, each_case}
@@ -165,7 +165,7 @@ asked_same past = record { run = refl; inbox = refl; numbers = refl }
 unchanged : (kind : Kind) (stream : List (List ℕ)) → Cases kind stream ChangesNothingOf
 unfolding ChangesNothingOf
 unchanged kind stream = record {
-  idle = λ past x e. same past;
+  idle = λ past x f g e. same past;
   primary_turn =
       λ past d i b n f g e. primary_same past d i b n
       (turn_from kind past.primary past.primary_inbox i (numbers_of d b n));

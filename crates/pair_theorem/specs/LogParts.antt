@@ -1,14 +1,14 @@
 -- The parts that speak of the log, the run that it names, its marks, the files and the guests.
-use Rattle.std.specs.Prelude.{◌≡◌, ℕ, ◌+◌, ◌%◌, ◌^◌, Bool, true, false, ◌&&◌, ◌||◌, ◌==◌, IsTrue, if◌then◌else◌, List, [], ◌∷◌, ◌++◌, length, map, filter, fold, slice_set, All, Option, None, Some}
+use Rattle.std.specs.Prelude.{◌≡◌, ℕ, ◌+◌, ◌%◌, ◌^◌, Bool, true, false, ◌&&◌, ◌||◌, ◌==◌, IsTrue, if◌then◌else◌, List, [], ◌∷◌, ◌++◌, length, map, filter, fold, All, Option, None, Some}
 use Rattle.std.specs.Int.{w32, to_be_bytes}
-use Rattle.std.specs.List.{concat, enumerate_from, filter_map, flat_map, list_any}
+use Rattle.std.specs.List.{concat, filter_map, flat_map, list_any}
 use Rattle.std.specs.List.Sorted.{IsStrictlyIncreasing}
 use Rattle.std.specs.Option.{option_map_or}
 use Rattle.colo_base.specs.declared.fault.Cause.{Cause}
-use Rattle.settle_rules.specs.Pieces.{pieces_of}
 use Rattle.settle_rules.specs.Release.{Released, released_frame}
 use Rattle.frame_mirror.specs.declared.ring.Waiting.{Waiting}
 use Rattle.state_wire.specs.Guest.{GuestState}
+use Rattle.kept_checkpoint.specs.Spelled.{spell}
 use Rattle.pair_theorem.specs.History.{entries, lines_of, past_at}
 use Rattle.replay_log.specs.Texts.{record_text}
 use Rattle.replay_log.specs.declared.lines.Line.{Line}
@@ -22,7 +22,7 @@ use Rattle.pair_theorem.specs.Log.{is_report}
 use Rattle.splice_run.specs.Log.{has_primary_stop, released_count}
 use Rattle.colo_wire.specs.Spelling.{line_front, line_numbers, line_rest, message_bytes, number_body, waiting_body}
 use Rattle.colo_wire.specs.declared.messages.Message.{Message}
-use Rattle.colo_wire.specs.declared.messages.Message.TheVariants.{Frame, State, Page, Disk, End, Ack}
+use Rattle.colo_wire.specs.declared.messages.Message.TheVariants.{Frame, End, Ack}
 use Rattle.pair_theorem.specs.Past.{Past, Start, Step, is_primary_stop}
 use Rattle.pair_theorem.specs.Places.{Event, delivered_due, delivered_in, events}
 use Rattle.pair_theorem.specs.TheRun.{run_of, the_run}
@@ -265,19 +265,6 @@ pub record GuestsPart (a : Start) (steps : List Step) (nodes : Nodes) : Type 0 w
       ≡ count_on a.secondary_turned (turns_of_secondary (entries steps))
 
 -- WHAT THE SECONDARY WAS TOLD
-abbrev pub set_sector : List (List ℕ) → ℕ × List ℕ → List (List ℕ)
-set_sector sectors x = slice_set sectors x.0 x.1
-
--- a message spells its part of a state over what stood there
-abbrev pub spell : GuestState → Message → GuestState
-spell state (State bytes) = record state { bytes = bytes }
-spell state (Page k bytes) = record state { pages = slice_set state.pages k bytes }
-spell state (Disk first bytes) =
-    record state {
-      sectors = fold set_sector state.sectors (enumerate_from first (pieces_of 512 bytes));
-    }
-spell state _ = state
-
 abbrev pub told_with : Line → Option Message → List Message
 told_with ToSecondary (Some m) = m ∷ []
 told_with _ _ = []
@@ -287,7 +274,7 @@ abbrev pub told_secondary : List Step → List Message
 told_secondary steps = flat_map (λ (s : Step). told_with s.entry.line s.delivered) steps
 
 -- Right after an End is delivered the secondary's guest is in the state that all it was told spells
--- over the start's.
+-- over the start's: state bytes, pages and sectors, the last for each place.
 abbrev pub ToldPart : Start → List Step → Nodes → Type 0
 ToldPart a steps nodes =
     (before : List Step) (s : Step) (e : ℕ) → steps ≡ before ++ s ∷ [] → s.delivered ≡ Some (End e)

@@ -1,19 +1,22 @@
 -- SPLICING: what a stop of the primary joins. Six sentences on each front of a log and on each
 -- event; what the proof of the theorem carries from event to event is these.
-use Rattle.std.specs.Prelude.{◌≡◌, ◌⊎◌, ℕ, Bool, true, false, not, ◌&&◌, ◌||◌, nat_le, IsTrue, if◌then◌else◌, List, [], ◌∷◌, ◌++◌, take, All, Option, None, Some}
-use Rattle.std.specs.List.{list_any}
+use Rattle.std.specs.Prelude.{◌≡◌, ℕ, Bool, true, false, not, ◌&&◌, ◌||◌, ◌==◌, nat_le, IsTrue, if◌then◌else◌, List, [], ◌∷◌, ◌++◌, fold, take, All, Option, None, Some}
+use Rattle.std.specs.List.{filter_map, list_any}
 use Rattle.inet_frame.specs.Fields.{TcpFields}
 use Rattle.inet_frame.specs.Flags.{has_syn}
+use Rattle.inet_frame.specs.declared.tuple.Tuple.{Tuple}
 use Rattle.tcp_track.specs.Lines.{Item, commit, line, sent, sent_of, trim}
+use Rattle.tcp_track.specs.Segments.{same_tuple}
 use Rattle.tcp_track.specs.declared.openings.Opening.{Opening}
 use Rattle.settle_rules.specs.Numbers.{KeptNumber, kept_number}
 use Rattle.settle_rules.specs.Release.{Released, tcp, reply}
 use Rattle.colo_wire.specs.declared.messages.Message.{Message}
 use Rattle.replay_log.specs.declared.lines.Line.{Line}
 use Rattle.pair_theorem.specs.Events.{is_ack_message}
-use Rattle.pair_theorem.specs.FrameParts.{PlaceAcks, PlaceStands}
+use Rattle.pair_theorem.specs.FrameParts.{PlaceAcks, PlaceStands, Syn, syn_of}
 use Rattle.pair_theorem.specs.History.{pair_log, past_at}
 use Rattle.pair_theorem.specs.Log.{HasOneStop, is_report}
+use Rattle.pair_theorem.specs.LogParts.{is_captured, is_committed}
 use Rattle.pair_theorem.specs.Messages.{number_of}
 use Rattle.pair_theorem.specs.Past.{Past, Start, Step, secondary_releases}
 use Rattle.pair_theorem.specs.Places.{Event, Place, event_places, events, places}
@@ -100,27 +103,60 @@ SurvivorStands a e =
     → StandIn (sent_of e.outcome.after.secondary.items) (event_places a e)
 
 -- THE NUMBER of a SYN that the survivor releases at the report was told to it or came with the last
--- committed checkpoint, which is what it keeps; where it keeps none, it is that of its guest's own
--- SYN.
+-- committed checkpoint, which is what it keeps. Where it keeps none the number is that of its
+-- guest's own SYN, and it is new to the client: the primary released no SYN of this tuple and client
+-- since the last committed capture, or since the start where there was none.
+
+-- the SYNs that were released since the last capture, and since the last capture that was committed
+pub record SynsSince : Type 0 where
+  pub captured : List Syn
+  pub committed : List Syn
+
+-- an event that captures has released before; one that commits releases nothing
+abbrev pub syns_after : Start → SynsSince → Event → SynsSince
+syns_after a x e =
+    let out = filter_map syn_of (event_places a e) in
+    record {
+      captured =
+          if list_any is_captured e.step.entry.marks then [] else x.captured ++ out;
+      committed =
+          if list_any is_committed e.step.entry.marks then x.captured else x.committed ++ out;
+    }
+
+unfoldable pub syns_since_commit : Start → List Event → List Syn
+unfolding event_places
+syns_since_commit a before =
+    (fold (syns_after a) (record { captured = []; committed = [] }) before).committed
+
+abbrev pub is_syn_to : Tuple → ℕ → Syn → Bool
+is_syn_to t client x = same_tuple x.tuple t && x.client == client
+
 abbrev pub IsOwnNumber : Option Opening → ℕ → Type 0
 IsOwnNumber opening number = (o : Opening) → opening ≡ Some o → o.own ≡ number
 
-abbrev pub IsSurvivorNumber : Past → Place → Option KeptNumber → Type 0
-IsSurvivorNumber past p (Some k) = k.number ≡ p.segment.seq
-IsSurvivorNumber past p None =
-    IsOwnNumber (line p.segment.tuple past.secondary.items).opening p.segment.seq
+pub record IsNewToClient (a : Start) (before : List Event) (past : Past) (p : Place)
+    (client : ℕ) : Type 0 where
+  pub own : IsOwnNumber (line p.segment.tuple past.secondary.items).opening p.segment.seq
+  pub none_released :
+      list_any (is_syn_to p.segment.tuple client) (syns_since_commit a before) ≡ false
 
-abbrev pub HasSurvivorNumber : Past → Place → Type 0
-HasSurvivorNumber past p =
+abbrev pub IsSurvivorNumber : Start → List Event → Past → Place → ℕ → Option KeptNumber → Type 0
+IsSurvivorNumber a before past p client (Some k) = k.number ≡ p.segment.seq
+IsSurvivorNumber a before past p client None = IsNewToClient a before past p client
+
+abbrev pub HasSurvivorNumber : Start → List Event → Past → Place → Type 0
+HasSurvivorNumber a before past p =
     (client : ℕ) → p.client ≡ Some client → has_syn p.segment.flags ≡ true
-    → IsSurvivorNumber past p (kept_number p.segment.tuple client past.secondary_numbers)
+    → IsSurvivorNumber a before past p client
+    (kept_number p.segment.tuple client past.secondary_numbers)
 
 abbrev pub is_survival : Event → Bool
 is_survival e = is_report e.step.entry.line && secondary_releases e.outcome.after
 
-abbrev pub SurvivorNumbers : Start → Event → Type 0
-SurvivorNumbers a e =
-    is_survival e ≡ true → All (HasSurvivorNumber e.past) (event_places a e)
+-- of an event and those before it
+abbrev pub SurvivorNumbers : Start → List Event → Event → Type 0
+SurvivorNumbers a before e =
+    is_survival e ≡ true → All (HasSurvivorNumber a before e.past) (event_places a e)
 
 -- AN UNFINISHED CHECKPOINT CHANGES NOTHING: neither a message of one before its End, nor the report
 -- that drops what was heard, changes the secondary's guest, lines, inbox or numbers.
@@ -144,7 +180,8 @@ pub record SplicingPart (a : Start) (steps : List Step) : Type 0 where
   pub fronts : (front later : List Step) → steps ≡ front ++ later → FrontSplices a front
   pub pause : All Pauses (events a steps)
   pub survivor_stands : All (SurvivorStands a) (events a steps)
-  pub survivor_numbers : All (SurvivorNumbers a) (events a steps)
+  pub survivor_numbers : (before later : List Event) (e : Event)
+      → events a steps ≡ before ++ e ∷ later → SurvivorNumbers a before e
   pub unfinished : All ChangesNothing (events a steps)
 
 -- WHAT IS TO BE PROVED of the definitions alone, beside `HoldsOfEachLog`
