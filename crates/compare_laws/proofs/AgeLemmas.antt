@@ -1,26 +1,20 @@
 -- Edges and ages, call by call.
-use Rattle.std.proofs.Common.{◌≡◌, ℕ, ◌+◌, suc, min, Bool, true, false, not, ◌&&◌, ◌||◌, ◌==◌, List, [], ◌∷◌, ◌++◌, append-nil, append_assoc, fold, Option, None, Some, is_some, unwrap_or, if◌then◌else◌, refl, sym, ap, subst, ◌∙◌, true≢false, arith}
+use Rattle.std.proofs.Common.{◌≡◌, ℕ, ◌+◌, suc, min, Bool, true, false, ◌&&◌, ◌||◌, ◌==◌, List, [], ◌∷◌, ◌++◌, fold, Option, None, Some, is_some, unwrap_or, if◌then◌else◌, refl, sym, ap, subst, ◌∙◌, true≢false, arith}
 use Rattle.std.specs.Bool.{⊤}
 use Rattle.std.specs.List.{list_any}
 use Rattle.std.specs.Map.{lookup}
 use Rattle.std.specs.Option.{option_map}
-use Rattle.std.proofs.lemmas.Bool.{and_parts, and_right, eqb-true, eq-eqb, or_from, or_parts}
-use Rattle.std.proofs.lemmas.Grind.{fold-append}
-use Rattle.std.proofs.lemmas.List.Folds.{list_any-append}
+use Rattle.std.proofs.lemmas.Bool.{and_parts, and_right, eqb-true, eq-eqb, or_parts}
 use Rattle.std.proofs.lemmas.Map.Made.{lookup-map_values}
-use Rattle.inet_frame.specs.Counted.{tuple_of}
-use Rattle.inet_frame.specs.Fields.{TcpFields}
 use Rattle.inet_frame.specs.declared.tuple.Tuple.{Tuple}
 use Rattle.tcp_track.specs.LineFields.{LineFields}
-use Rattle.tcp_track.specs.Lines.{order, order_after, sent_of}
-use Rattle.tcp_track.specs.Segments.{is_refusal, may_open, same_tuple}
+use Rattle.tcp_track.specs.Segments.{same_tuple}
 use Rattle.tcp_track.specs.Tracking.{entry_of, line_at, no_entry, took_of}
 use Rattle.tcp_track.specs.declared.openings.Opening.{Opening}
 use Rattle.tcp_track.specs.declared.answers.Took.{Took}
 use Rattle.tcp_track.specs.declared.answers.What.{What}
 use Rattle.tcp_track.specs.declared.answers.What.TheVariants.{Ignored, Opened, Restarted, Symbols, Reset, Refused}
 use Rattle.tcp_track.specs.declared.table.Entry.{Entry}
-use Rattle.tcp_track.proofs.StandingLemmas.{same_tuple-sym}
 use Rattle.tcp_track.proofs.TupleLemmas.{is_some-lookup, same_tuple-eq}
 use Rattle.settle_rules.specs.Matching.{BothLines}
 use Rattle.settle_rules.specs.OwnFrames.{progress_with}
@@ -33,7 +27,7 @@ use Rattle.line_settle.proofs.ShownLemmas.{shown_after-append}
 use Rattle.settle_table.specs.Kept.{KeptScene, add_tuple, both_kept, is_restarted, no_release, settle_found, settle_kept, settle_kept_tuple, settle_line, line_settled, tuples_of}
 use Rattle.settle_table.specs.Table.{progress_at, set_progress}
 use Rattle.settle_table.proofs.TableLemmas.{progress_at-set_other, progress_at-set_same}
-use Rattle.out_compare.specs.Comparing.{Comparing, nothing_compared, scene_of, settlement_of, take_own, take_heard, learn, settle, capture, acknowledge}
+use Rattle.out_compare.specs.Comparing.{Comparing, scene_of, settlement_of, take_own, take_heard, learn, settle, capture, acknowledge}
 use Rattle.out_compare.specs.Noting.{is_noted, note_progress, opening_made}
 use Rattle.compare_laws.specs.Ages.{Sight, edge_after, edge_at_end, edge_from, edge_settled, sight_of, sights_after, sights_at_end, sights_from, sights_with, turns_in_a_row, turns_waited}
 use Rattle.compare_laws.specs.Calls.{CompareCall, sends, hears, learns, settles, looks, captures, acknowledges, remains, compare_after, compare_calls}
@@ -162,7 +156,7 @@ noted table t took = by (same_tuple t took.tuple) refl
         (noted_here table t took.what)
     by false other = noted_elsewhere table t took other
 
-cleared : (table : ProgressTable) (t : Tuple) →
+pub cleared : (table : ProgressTable) (t : Tuple) →
     progress_at (clear_ages table) t ≡ record (progress_at table t) { age = 0 }
 cleared table t =
     ap (λ (o : Option Progress). unwrap_or o no_progress)
@@ -186,13 +180,13 @@ edge_noted true Reset p = refl
 edge_noted true (Refused n) p = refl
 edge_noted false w p = refl
 
-one_edge : (b : BothLines) (p : Progress) (is_turn : Bool) (tooks : List Took) →
+pub one_edge : (b : BothLines) (p : Progress) (is_turn : Bool) (tooks : List Took) →
     (settle_one b p is_turn tooks).progress.edge ≡ new_edge b p.edge
 unfolding settle_one
 one_edge b p true tooks = refl
 one_edge b p false tooks = refl
 
-rest_edge : (b : BothLines) (p : Progress) (is_turn : Bool) → (rest_one b p is_turn).progress.edge ≡ p.edge
+pub rest_edge : (b : BothLines) (p : Progress) (is_turn : Bool) → (rest_one b p is_turn).progress.edge ≡ p.edge
 rest_edge b p true = refl
 rest_edge b p false = refl
 

@@ -1,5 +1,5 @@
 -- The lines of both guests, call by call.
-use Rattle.std.proofs.Common.{◌≡◌, ℕ, false, List, [], ◌∷◌, ◌++◌, map, fold, Option, None, Some, refl, sym, ap, subst, ◌∙◌, true≢false}
+use Rattle.std.proofs.Common.{◌≡◌, ℕ, false, List, [], ◌∷◌, ◌++◌, fold, Option, None, Some, refl, sym, ap, subst, ◌∙◌, true≢false}
 use Rattle.std.specs.List.{cons_option}
 use Rattle.std.specs.Map.{keys_of}
 use Rattle.std.specs.Option.{option_map}
@@ -8,7 +8,7 @@ use Rattle.std.proofs.lemmas.List.Elements.{filter_map-append}
 use Rattle.inet_frame.specs.Counted.{counted, client_tuple_of}
 use Rattle.inet_frame.specs.Fields.{TcpFields}
 use Rattle.inet_frame.specs.declared.tuple.Tuple.{Tuple}
-use Rattle.tcp_track.specs.Laws.{Call, takes, commits, call_after, item_of, items_of, tracking_of, IsHeld}
+use Rattle.tcp_track.specs.Laws.{Call, commits, call_after, item_of, items_of, tracking_of, IsHeld}
 use Rattle.tcp_track.specs.Lines.{Item, sent, commit, sent_of, line}
 use Rattle.tcp_track.specs.Stands.{opening_of, segments}
 use Rattle.tcp_track.specs.Tracking.{Tracking, nothing_tracked, line_at, current_at, committed}
@@ -18,7 +18,7 @@ use Rattle.tcp_track.proofs.StandingLemmas.{keeps_each_line, opening_of_line}
 use Rattle.tcp_track.proofs.SymbolLemmas.{line_fits}
 use Rattle.out_compare.specs.Comparing.{Comparing, nothing_compared, take_own, take_heard, learn, settle, capture, acknowledge, leave_alone}
 use Rattle.out_compare.specs.Look.{look, look_with, looked}
-use Rattle.compare_laws.specs.Calls.{CompareCall, sends, hears, learns, settles, looks, captures, acknowledges, remains, compare_after, compare_calls, comparing_of, frames_sent, frames_heard, trim_in, own_call, own_calls, own_items, heard_call, heard_calls, heard_items, has_acknowledgement}
+use Rattle.compare_laws.specs.Calls.{CompareCall, sends, hears, learns, settles, looks, captures, acknowledges, remains, compare_after, compare_calls, comparing_of, frames_sent, trim_in, own_call, own_calls, own_items, heard_call, heard_calls, heard_items, has_acknowledgement}
 use Rattle.compare_laws.specs.Laws.{KeepsOwnLines, TakesEachFrame, KeepsOwnOrder, GoesOn, KnowsWhatWasHeard, HearsEachFrame, KnowsACopy}
 
 -- THE OWN LINES

@@ -40,21 +40,26 @@ pub number_of-is : (t : Tuple) (client : ℕ) (k : KeptNumber) →
     is_number_of t client k ≡ is_of (record { tuple = t; client = client }) k
 number_of-is t client k = same_incarnation-comm (incarnation_of k) (record { tuple = t; client = client })
 
+-- the kept numbers that are known are those that don't wait to be
+abbrev pub WaitsRightly : List Incarnation → List KeptNumber → Type 0
+WaitsRightly unknown kept =
+    (i : Incarnation) →
+    is_known (find (is_of i) kept) ≡ (is_some (find (is_of i) kept) && not (list_any (same_incarnation i) unknown))
+
 -- the numbers of a comparer, and which of them wait to be known, are those of a list
-pub record Tied (numbers : KeptNumbers) (unknown : List Incarnation) (kept : List KeptNumber) : Type 0 where
-  pub table : numbers ≡ table_of kept
-  pub known : (i : Incarnation) → is_known (find (is_of i) kept)
-      ≡ (is_some (find (is_of i) kept) && not (list_any (same_incarnation i) unknown))
+record Tied (numbers : KeptNumbers) (unknown : List Incarnation) (kept : List KeptNumber) : Type 0 where
+  table : numbers ≡ table_of kept
+  known : WaitsRightly unknown kept
 
 -- the client of each current opening has a number
 abbrev pub AreNumbered : List TcpFields → List KeptNumber → Type 0
 AreNumbered said kept = (t : Tuple) (o : Opening) → opening_of t said ≡ Some o →
     is_some (find (is_of (record { tuple = t; client = o.client })) kept) ≡ true
 
-pub record Numbered (numbers : KeptNumbers) (unknown : List Incarnation) (said : List TcpFields)
+record Numbered (numbers : KeptNumbers) (unknown : List Incarnation) (said : List TcpFields)
     (kept : List KeptNumber) : Type 0 where
-  pub tied : Tied numbers unknown kept
-  pub are : AreNumbered said kept
+  tied : Tied numbers unknown kept
+  are : AreNumbered said kept
 
 through : (found found' : Option KeptNumber) (waits waits' : Bool) → found' ≡ found → waits' ≡ waits →
     is_known found ≡ (is_some found && not waits) → is_known found' ≡ (is_some found' && not waits')
@@ -62,7 +67,7 @@ through found found' waits waits' e f h =
     ap (λ (o : Option KeptNumber). is_known o) e
     ∙ (h ∙ sym (ap₂ (λ (o : Option KeptNumber) (b : Bool). is_some o && not b) e f))
 
-pub lookup-table : (i : Incarnation) (kept : List KeptNumber) →
+lookup-table : (i : Incarnation) (kept : List KeptNumber) →
     lookup (same_incarnation i) (table_of kept) ≡ option_map (λ (k : KeptNumber). k.number) (find (is_of i) kept)
 lookup-table i [] = refl
 lookup-table i (k ∷ kept) = by (is_of i k) (lookup-table i kept)
@@ -74,12 +79,12 @@ lookup-table i (k ∷ kept) = by (is_of i k) (lookup-table i kept)
     by true more = refl
     by false more = more
 
-some_number : (o : Option KeptNumber) → is_some (option_map (λ (k : KeptNumber). k.number) o) ≡ is_some o
+pub some_number : (o : Option KeptNumber) → is_some (option_map (λ (k : KeptNumber). k.number) o) ≡ is_some o
 some_number None = refl
 some_number (Some k) = refl
 
 -- a client has a number in both or in neither
-pub has_number : (numbers : KeptNumbers) (unknown : List Incarnation) (kept : List KeptNumber) (i : Incarnation) →
+has_number : (numbers : KeptNumbers) (unknown : List Incarnation) (kept : List KeptNumber) (i : Incarnation) →
     Tied numbers unknown kept → is_some (lookup (same_incarnation i) numbers) ≡ is_some (find (is_of i) kept)
 has_number numbers unknown kept i h =
     ap (λ (ns : KeptNumbers). is_some (lookup (same_incarnation i) ns)) h.table
@@ -87,15 +92,10 @@ has_number numbers unknown kept i h =
 
 -- A NUMBER THAT IS KEPT NEWLY
 
-pub tied_push : (numbers : KeptNumbers) (unknown : List Incarnation) (kept : List KeptNumber) (new : KeptNumber) →
-    new.known ≡ false → is_some (find (is_of (incarnation_of new)) kept) ≡ false → Tied numbers unknown kept →
-    Tied (numbers ++ (incarnation_of new, new.number) ∷ []) (insert_incarnation unknown (incarnation_of new))
-    (kept ++ new ∷ [])
-tied_push numbers unknown kept new waits absent h = record {
-  table = ap (λ (ns : KeptNumbers). ns ++ (incarnation_of new, new.number) ∷ []) h.table
-      ∙ sym (map-append (λ (k : KeptNumber). (incarnation_of k, k.number)) kept (new ∷ []));
-  known = λ i. by i (same_incarnation i (incarnation_of new)) refl;
-}
+pub waits_push : (unknown : List Incarnation) (kept : List KeptNumber) (new : KeptNumber) →
+    new.known ≡ false → is_some (find (is_of (incarnation_of new)) kept) ≡ false → WaitsRightly unknown kept →
+    WaitsRightly (insert_incarnation unknown (incarnation_of new)) (kept ++ new ∷ [])
+waits_push unknown kept new waits absent h = λ i. by i (same_incarnation i (incarnation_of new)) refl
   where
     none_there : (o : Option KeptNumber) → is_some o ≡ false → found_first o (Some new) ≡ Some new
     none_there None e = refl
@@ -122,7 +122,17 @@ tied_push numbers unknown kept new waits absent h = record {
         ∙ (ap (λ (b : Bool). found_first (find (is_of i) kept) (cond b (Some new) None)) e
         ∙ found_first-none (find (is_of i) kept)))
         (any-insert i (incarnation_of new) unknown ∙ ap (λ (b : Bool). b || list_any (same_incarnation i) unknown) e)
-        (h.known i)
+        (h i)
+
+tied_push : (numbers : KeptNumbers) (unknown : List Incarnation) (kept : List KeptNumber) (new : KeptNumber) →
+    new.known ≡ false → is_some (find (is_of (incarnation_of new)) kept) ≡ false → Tied numbers unknown kept →
+    Tied (numbers ++ (incarnation_of new, new.number) ∷ []) (insert_incarnation unknown (incarnation_of new))
+    (kept ++ new ∷ [])
+tied_push numbers unknown kept new waits absent h = record {
+  table = ap (λ (ns : KeptNumbers). ns ++ (incarnation_of new, new.number) ∷ []) h.table
+      ∙ sym (map-append (λ (k : KeptNumber). (incarnation_of k, k.number)) kept (new ∷ []));
+  known = waits_push unknown kept new waits absent h.known;
+}
 
 -- WHAT A SEGMENT OPENS
 
@@ -178,7 +188,7 @@ what_makes current known s = by_refusal (is_refusal s) refl
 
 -- what an opening changes only where it is new, changes exactly where no number is kept, since the
 -- client of a current opening has one
-choose : {X : Type 0} (opens same has : Bool) (old new : X) → (opens ≡ true → same ≡ true → has ≡ true) →
+pub choose : {X : Type 0} (opens same has : Bool) (old new : X) → (opens ≡ true → same ≡ true → has ≡ true) →
     (if opens && not same then (if has then old else new) else old) ≡ (if opens && not has then new else old)
 choose false same has old new h = refl
 choose true true true old new h = refl
@@ -230,10 +240,11 @@ current_has current said kept s e are same =
 
 pub numbers_then : (mine : Tracking) (numbers : KeptNumbers) (unknown : List Incarnation) (said : List TcpFields)
     (kept : List KeptNumber) (s : TcpFields) → current_at mine (tuple_of s) ≡ opening_of (tuple_of s) said →
-    Tied numbers unknown kept → AreNumbered said kept → note_number numbers (took_in mine (Some s))
+    is_some (number_of numbers (tuple_of s) (opening_in s).client) ≡ has_new kept s → AreNumbered said kept →
+    note_number numbers (took_in mine (Some s))
     ≡ (if is_new kept s then numbers ++ (incarnation_of (new_of s), s.seq) ∷ [] else numbers)
 unfolding what_in
-numbers_then mine numbers unknown said kept s e h are =
+numbers_then mine numbers unknown said kept s e has are =
     let t = tuple_of s in
     let o = opening_in s in
     let current = current_at mine t in
@@ -242,16 +253,17 @@ numbers_then mine numbers unknown said kept s e h are =
     ∙ (number_if (may_open s && not same) numbers t o
     ∙ (ap (λ (b : Bool). if may_open s && not same then (if b then numbers else numbers
     ++ (incarnation_of (new_of s), s.seq) ∷ []) else numbers)
-    (has_number numbers unknown kept (incarnation_of (new_of s)) h)
+    has
     ∙ choose (may_open s) same (has_new kept s) numbers (numbers ++ (incarnation_of (new_of s), s.seq) ∷ [])
     (λ opens is. current_has current said kept s e are is)))
 
 pub unknown_then : (mine : Tracking) (numbers : KeptNumbers) (unknown : List Incarnation) (said : List TcpFields)
     (kept : List KeptNumber) (s : TcpFields) → current_at mine (tuple_of s) ≡ opening_of (tuple_of s) said →
-    Tied numbers unknown kept → AreNumbered said kept → note_unknown numbers unknown (took_in mine (Some s))
+    is_some (number_of numbers (tuple_of s) (opening_in s).client) ≡ has_new kept s → AreNumbered said kept →
+    note_unknown numbers unknown (took_in mine (Some s))
     ≡ (if is_new kept s then insert_incarnation unknown (incarnation_of (new_of s)) else unknown)
 unfolding what_in
-unknown_then mine numbers unknown said kept s e h are =
+unknown_then mine numbers unknown said kept s e has are =
     let t = tuple_of s in
     let o = opening_in s in
     let current = current_at mine t in
@@ -261,17 +273,26 @@ unknown_then mine numbers unknown said kept s e h are =
     ∙ (unknown_if (may_open s && not same) numbers unknown t o
     ∙ (ap (λ (b : Bool). if may_open s && not same then (if b then unknown
     else insert_incarnation unknown (incarnation_of (new_of s))) else unknown)
-    (has_number numbers unknown kept (incarnation_of (new_of s)) h)
+    has
     ∙ choose (may_open s) same (has_new kept s) unknown (insert_incarnation unknown (incarnation_of (new_of s)))
     (λ opens is. current_has current said kept s e are is)))
 
-pub tied_then : (b : Bool) (numbers : KeptNumbers) (unknown : List Incarnation) (kept : List KeptNumber) (s : TcpFields) →
+tied_then : (b : Bool) (numbers : KeptNumbers) (unknown : List Incarnation) (kept : List KeptNumber) (s : TcpFields) →
     (b ≡ true → has_new kept s ≡ false) → Tied numbers unknown kept →
     Tied (if b then numbers ++ (incarnation_of (new_of s), s.seq) ∷ [] else numbers)
     (if b then insert_incarnation unknown (incarnation_of (new_of s)) else unknown)
     (if b then kept ++ new_of s ∷ [] else kept)
 tied_then true numbers unknown kept s absent h = tied_push numbers unknown kept (new_of s) refl (absent refl) h
 tied_then false numbers unknown kept s absent h = h
+
+-- a number is new only where none is there
+pub not_there : (kept : List KeptNumber) (s : TcpFields) → is_new kept s ≡ true → has_new kept s ≡ false
+not_there kept s e = by (may_open s) (has_new kept s) e
+  where
+    by : (m has : Bool) → (m && not has) ≡ true → has ≡ false
+    by true true e = absurd (true≢false (sym e))
+    by true false e = refl
+    by false has e = absurd (true≢false (sym e))
 
 pub found_stays : (i : Incarnation) (kept : List KeptNumber) (new : KeptNumber) (b : Bool) →
     is_some (find (is_of i) kept) ≡ true → is_some (find (is_of i) (if b then kept ++ new ∷ [] else kept)) ≡ true
@@ -285,7 +306,7 @@ found_stays i kept new true h =
     by (Some k) h = refl
 
 -- after a segment that may open, its client has a number
-pub opened_has : (kept : List KeptNumber) (s : TcpFields) → may_open s ≡ true →
+opened_has : (kept : List KeptNumber) (s : TcpFields) → may_open s ≡ true →
     is_some (find (is_of (incarnation_of (new_of s))) (if is_new kept s then kept ++ new_of s ∷ [] else kept)) ≡ true
 opened_has kept s opens = by (has_new kept s) refl
   where
@@ -333,7 +354,7 @@ are_then said kept s are t o e =
     by true same false opens e = old e
     by false same m opens e = old e
 
-pub sends_one : (mine : Tracking) (numbers : KeptNumbers) (unknown : List Incarnation) (said : List TcpFields)
+sends_one : (mine : Tracking) (numbers : KeptNumbers) (unknown : List Incarnation) (said : List TcpFields)
     (kept : List KeptNumber) (o : Option TcpFields) → ((t : Tuple) → current_at mine t ≡ opening_of t said) →
     Numbered numbers unknown said kept →
     Numbered (note_number numbers (took_in mine o)) (note_unknown numbers unknown (took_in mine o))
@@ -342,10 +363,11 @@ sends_one mine numbers unknown said kept None current h =
     subst (λ (xs : List TcpFields). Numbered numbers unknown xs kept) (sym (append-nil said)) h
 sends_one mine numbers unknown said kept (Some s) current h =
     let e = current (tuple_of s) in
-    let n = numbers_then mine numbers unknown said kept s e h.tied h.are in
-    let u = unknown_then mine numbers unknown said kept s e h.tied h.are in
+    let has = has_number numbers unknown kept (incarnation_of (new_of s)) h.tied in
+    let n = numbers_then mine numbers unknown said kept s e has h.are in
+    let u = unknown_then mine numbers unknown said kept s e has h.are in
     let k = kept_then kept s in
-    let tied = tied_then (is_new kept s) numbers unknown kept s (not_there (may_open s) (has_new kept s)) h.tied in
+    let tied = tied_then (is_new kept s) numbers unknown kept s (not_there kept s) h.tied in
     record {
       tied = subst (λ (ks : List KeptNumber). Tied (note_number numbers (took_in mine (Some s)))
           (note_unknown numbers unknown (took_in mine (Some s))) ks) (sym k)
@@ -356,11 +378,6 @@ sends_one mine numbers unknown said kept (Some s) current h =
           (if is_new kept s then kept ++ new_of s ∷ [] else kept)) (sym n) tied));
       are = subst (λ (ks : List KeptNumber). AreNumbered (said ++ s ∷ []) ks) (sym k) (are_then said kept s h.are);
     }
-  where
-    not_there : (m has : Bool) → (m && not has) ≡ true → has ≡ false
-    not_there true true e = absurd (true≢false (sym e))
-    not_there true false e = refl
-    not_there false has e = absurd (true≢false (sym e))
 
 -- A CAPTURE
 
@@ -379,7 +396,36 @@ table-filter q r same (k ∷ kept) =
     by true more = ap (λ (ns : KeptNumbers). (incarnation_of k, k.number) ∷ ns) more
     by false more = more
 
-pub thins : (numbers : KeptNumbers) (unknown : List Incarnation) (said : List TcpFields) (kept : List KeptNumber)
+-- what is found of the numbers that pass a test
+pub found-thin : (kept : List KeptNumber) (q : KeptNumber → Bool) (r : Incarnation → Bool) →
+    ((k : KeptNumber) → q k ≡ r (incarnation_of k)) → (i : Incarnation) →
+    find (is_of i) (filter q kept) ≡ cond (r i) (find (is_of i) kept) None
+found-thin kept q r same i = find-filter (is_of i) q (r i)
+    (λ k e. same k ∙ ap r (sym (same_incarnation-eq i (incarnation_of k) e))) kept
+
+pub waits_thin : (unknown : List Incarnation) (kept : List KeptNumber) (q : KeptNumber → Bool)
+    (r : Incarnation → Bool) → ((k : KeptNumber) → q k ≡ r (incarnation_of k)) → WaitsRightly unknown kept →
+    WaitsRightly (filter r unknown) (filter q kept)
+waits_thin unknown kept q r same h = λ i. through (cond (r i) (find (is_of i) kept) None)
+    (find (is_of i) (filter q kept)) (r i && list_any (same_incarnation i) unknown)
+    (list_any (same_incarnation i) (filter r unknown)) (found-thin kept q r same i)
+    (any-filter (same_incarnation i) r (r i) (λ j e. ap r (sym (same_incarnation-eq i j e))) unknown) (by i (r i))
+  where
+    by : (i : Incarnation) (b : Bool) → is_known (cond b (find (is_of i) kept) None)
+        ≡ (is_some (cond b (find (is_of i) kept) None) && not (b && list_any (same_incarnation i) unknown))
+    by i true = h i
+    by i false = refl
+
+pub are_thin : (said : List TcpFields) (kept : List KeptNumber) (q : KeptNumber → Bool) (r : Incarnation → Bool) →
+    ((k : KeptNumber) → q k ≡ r (incarnation_of k)) →
+    ((t : Tuple) (o : Opening) → opening_of t said ≡ Some o → r (record { tuple = t; client = o.client }) ≡ true) →
+    AreNumbered said kept → AreNumbered said (filter q kept)
+are_thin said kept q r same stays h = λ t o e.
+    ap (λ (x : Option KeptNumber). is_some x) (found-thin kept q r same (record { tuple = t; client = o.client }))
+    ∙ (ap (λ (b : Bool). is_some (cond b (find (is_of (record { tuple = t; client = o.client })) kept) None))
+    (stays t o e) ∙ h t o e)
+
+thins : (numbers : KeptNumbers) (unknown : List Incarnation) (said : List TcpFields) (kept : List KeptNumber)
     (q : KeptNumber → Bool) (r : Incarnation → Bool) → ((k : KeptNumber) → q k ≡ r (incarnation_of k)) →
     ((t : Tuple) (o : Opening) → opening_of t said ≡ Some o → r (record { tuple = t; client = o.client }) ≡ true) →
     Numbered numbers unknown said kept →
@@ -388,25 +434,10 @@ thins numbers unknown said kept q r same stays h = record {
   tied = record {
     table = ap (λ (ns : KeptNumbers). filter (λ (n : Incarnation × ℕ). r n.0) ns) h.tied.table
         ∙ table-filter q r same kept;
-    known = λ i. through (cond (r i) (find (is_of i) kept) None) (find (is_of i) (filter q kept))
-        (r i && list_any (same_incarnation i) unknown) (list_any (same_incarnation i) (filter r unknown))
-        (found i) (any-filter (same_incarnation i) r (r i)
-        (λ j e. ap r (sym (same_incarnation-eq i j e))) unknown)
-        (by i (r i));
+    known = waits_thin unknown kept q r same h.tied.known;
   };
-  are = λ t o e. ap (λ (x : Option KeptNumber). is_some x) (found (record { tuple = t; client = o.client }))
-      ∙ (ap (λ (b : Bool). is_some (cond b (find (is_of (record { tuple = t; client = o.client })) kept) None))
-      (stays t o e) ∙ h.are t o e);
+  are = are_thin said kept q r same stays h.are;
 }
-  where
-    found : (i : Incarnation) → find (is_of i) (filter q kept) ≡ cond (r i) (find (is_of i) kept) None
-    found i = find-filter (is_of i) q (r i)
-        (λ k e. same k ∙ ap r (sym (same_incarnation-eq i (incarnation_of k) e))) kept
-
-    by : (i : Incarnation) (b : Bool) → is_known (cond b (find (is_of i) kept) None)
-        ≡ (is_some (cond b (find (is_of i) kept) None) && not (b && list_any (same_incarnation i) unknown))
-    by i true = h.tied.known i
-    by i false = refl
 
 -- NUMBERS THAT ARE KNOWN
 
@@ -422,37 +453,42 @@ table-map f keeps (k ∷ kept) =
     ap₂ (λ (n : Incarnation × ℕ) (ns : KeptNumbers). n ∷ ns)
     (ap₂ (λ (i : Incarnation) (n : ℕ). (i, n)) (keeps.key k) (keeps.number k)) (table-map f keeps kept)
 
-found-map : (f : KeptNumber → KeptNumber) → KeepsKeys f → (kept : List KeptNumber) (i : Incarnation) →
+pub found-map : (f : KeptNumber → KeptNumber) → KeepsKeys f → (kept : List KeptNumber) (i : Incarnation) →
     find (is_of i) (map f kept) ≡ option_map f (find (is_of i) kept)
 found-map f keeps kept i =
     find-map (is_of i) f (λ k. ap (λ (j : Incarnation). same_incarnation i j) (keeps.key k)) kept
 
-still_some : (f : KeptNumber → KeptNumber) (o : Option KeptNumber) → is_some (option_map f o) ≡ is_some o
+pub still_some : (f : KeptNumber → KeptNumber) (o : Option KeptNumber) → is_some (option_map f o) ≡ is_some o
 still_some f None = refl
 still_some f (Some k) = refl
 
-pub knows_more : (numbers : KeptNumbers) (unknown now : List Incarnation) (said : List TcpFields) (kept : List KeptNumber)
-    (f : KeptNumber → KeptNumber) → KeepsKeys f → Numbered numbers unknown said kept →
+pub waits_map : (now : List Incarnation) (kept : List KeptNumber) (f : KeptNumber → KeptNumber) → KeepsKeys f →
     ((i : Incarnation) (k : KeptNumber) → find (is_of i) kept ≡ Some k →
-    (f k).known ≡ not (list_any (same_incarnation i) now)) → Numbered numbers now said (map f kept)
-knows_more numbers unknown now said kept f keeps h known = record {
-  tied = record {
-    table = h.tied.table ∙ sym (table-map f keeps kept);
-    known = λ i. through (option_map f (find (is_of i) kept)) (find (is_of i) (map f kept))
-        (list_any (same_incarnation i) now) (list_any (same_incarnation i) now) (found-map f keeps kept i) refl
-        (by i (find (is_of i) kept) refl);
-  };
-  are = λ t o e. ap (λ (x : Option KeptNumber). is_some x)
-      (found-map f keeps kept (record { tuple = t; client = o.client }))
-      ∙ (still_some f (find (is_of (record { tuple = t; client = o.client })) kept) ∙ h.are t o e);
-}
+    (f k).known ≡ not (list_any (same_incarnation i) now)) → WaitsRightly now (map f kept)
+waits_map now kept f keeps known = λ i. through (option_map f (find (is_of i) kept)) (find (is_of i) (map f kept))
+    (list_any (same_incarnation i) now) (list_any (same_incarnation i) now) (found-map f keeps kept i) refl
+    (by i (find (is_of i) kept) refl)
   where
     by : (i : Incarnation) (o : Option KeptNumber) → find (is_of i) kept ≡ o →
         is_known (option_map f o) ≡ (is_some (option_map f o) && not (list_any (same_incarnation i) now))
     by i None e = refl
     by i (Some k) e = known i k e
 
-learns_keys : (t : Tuple) (client number : ℕ) → KeepsKeys (learn_kept t client number)
+pub are_map : (said : List TcpFields) (kept : List KeptNumber) (f : KeptNumber → KeptNumber) → KeepsKeys f →
+    AreNumbered said kept → AreNumbered said (map f kept)
+are_map said kept f keeps h = λ t o e.
+    ap (λ (x : Option KeptNumber). is_some x) (found-map f keeps kept (record { tuple = t; client = o.client }))
+    ∙ (still_some f (find (is_of (record { tuple = t; client = o.client })) kept) ∙ h t o e)
+
+knows_more : (numbers : KeptNumbers) (unknown now : List Incarnation) (said : List TcpFields) (kept : List KeptNumber)
+    (f : KeptNumber → KeptNumber) → KeepsKeys f → Numbered numbers unknown said kept →
+    WaitsRightly now (map f kept) → Numbered numbers now said (map f kept)
+knows_more numbers unknown now said kept f keeps h known = record {
+  tied = record { table = h.tied.table ∙ sym (table-map f keeps kept); known = known };
+  are = are_map said kept f keeps h.are;
+}
+
+pub learns_keys : (t : Tuple) (client number : ℕ) → KeepsKeys (learn_kept t client number)
 learns_keys t client number = record {
   key = λ k. by_key k (is_number_of t client k && k.number == number);
   number = λ k. by_number k (is_number_of t client k && k.number == number);
@@ -468,29 +504,26 @@ learns_keys t client number = record {
     by_number k false = refl
 
 -- what is still unknown after one number was said to be known
-abbrev unknown_still : Bool → List Incarnation → Incarnation → List Incarnation
+abbrev pub unknown_still : Bool → List Incarnation → Incarnation → List Incarnation
 unknown_still b unknown j =
     if b then filter (λ (i : Incarnation). not (same_incarnation i j)) unknown else unknown
 
-pub learns_one : (numbers : KeptNumbers) (unknown : List Incarnation) (said : List TcpFields) (kept : List KeptNumber)
-    (t : Tuple) (client number : ℕ) → Numbered numbers unknown said kept →
-    Numbered numbers (unknown_still (is_kept (number_of numbers t client) number) unknown
-    (record { tuple = t; client = client })) said (learn_number kept t client number)
-learns_one numbers unknown said kept t client number h = knows_more numbers unknown
-    (unknown_still (is_kept (number_of numbers t client) number) unknown j) said kept
-    (learn_kept t client number) (learns_keys t client number) h known
+pub waits_learn : (numbers : KeptNumbers) (unknown : List Incarnation) (kept : List KeptNumber) (t : Tuple)
+    (client number : ℕ) → ((k : KeptNumber) → find (is_of (record { tuple = t; client = client })) kept ≡ Some k →
+    number_of numbers t client ≡ Some k.number) → WaitsRightly unknown kept →
+    WaitsRightly (unknown_still (is_kept (number_of numbers t client) number) unknown
+    (record { tuple = t; client = client })) (learn_number kept t client number)
+waits_learn numbers unknown kept t client number looked h = waits_map
+    (unknown_still (is_kept (number_of numbers t client) number) unknown j) kept (learn_kept t client number)
+    (learns_keys t client number) known
   where
     j : Incarnation
     j = record { tuple = t; client = client }
 
-    looked : (k : KeptNumber) → find (is_of j) kept ≡ Some k → number_of numbers t client ≡ Some k.number
-    looked k e = ap (λ (ns : KeptNumbers). number_of ns t client) h.tied.table
-        ∙ (lookup-table j kept ∙ ap (λ (o : Option KeptNumber). option_map (λ (k : KeptNumber). k.number) o) e)
-
     was : (i : Incarnation) (k : KeptNumber) → find (is_of i) kept ≡ Some k →
         k.known ≡ not (list_any (same_incarnation i) unknown)
     was i k e = subst (λ (o : Option KeptNumber). is_known o ≡ (is_some o
-        && not (list_any (same_incarnation i) unknown))) e (h.tied.known i)
+        && not (list_any (same_incarnation i) unknown))) e (h i)
 
     here : (k : KeptNumber) → find (is_of j) kept ≡ Some k → (m : Bool) →
         (if m then record k { known = true } else k).known
@@ -533,14 +566,34 @@ learns_one numbers unknown said kept t client number h = knows_more numbers unkn
         (unknown_still (is_kept (number_of numbers t client) number) unknown j))
     known i k e = by i k e (same_incarnation i j) refl
 
-all_known : KeptNumber → KeptNumber
+learns_one : (numbers : KeptNumbers) (unknown : List Incarnation) (said : List TcpFields) (kept : List KeptNumber)
+    (t : Tuple) (client number : ℕ) → Numbered numbers unknown said kept →
+    Numbered numbers (unknown_still (is_kept (number_of numbers t client) number) unknown
+    (record { tuple = t; client = client })) said (learn_number kept t client number)
+learns_one numbers unknown said kept t client number h = knows_more numbers unknown
+    (unknown_still (is_kept (number_of numbers t client) number) unknown j) said kept (learn_kept t client number)
+    (learns_keys t client number) h (waits_learn numbers unknown kept t client number looked h.tied.known)
+  where
+    j : Incarnation
+    j = record { tuple = t; client = client }
+
+    looked : (k : KeptNumber) → find (is_of j) kept ≡ Some k → number_of numbers t client ≡ Some k.number
+    looked k e = ap (λ (ns : KeptNumbers). number_of ns t client) h.tied.table
+        ∙ (lookup-table j kept ∙ ap (λ (o : Option KeptNumber). option_map (λ (k : KeptNumber). k.number) o) e)
+
+abbrev pub all_known : KeptNumber → KeptNumber
 all_known k = record k { known = true }
 
-pub learns_all : (numbers : KeptNumbers) (unknown : List Incarnation) (said : List TcpFields) (kept : List KeptNumber) →
+pub all_keys : KeepsKeys all_known
+all_keys = record { key = λ k. refl; number = λ k. refl }
+
+pub waits_none : (kept : List KeptNumber) → WaitsRightly [] (learn_all kept)
+waits_none kept = waits_map [] kept all_known all_keys (λ i k e. refl)
+
+learns_all : (numbers : KeptNumbers) (unknown : List Incarnation) (said : List TcpFields) (kept : List KeptNumber) →
     Numbered numbers unknown said kept → Numbered numbers [] said (learn_all kept)
-unfolding all_known
-learns_all numbers unknown said kept h = knows_more numbers unknown [] said kept all_known
-    (record { key = λ k. refl; number = λ k. refl }) h (λ i k e. refl)
+learns_all numbers unknown said kept h = knows_more numbers unknown [] said kept all_known all_keys h
+    (waits_none kept)
 
 -- ANY LIST OF CALLS
 
@@ -644,7 +697,7 @@ knows_numbers calls is_turn t client =
 
 -- THE NUMBERS THAT A SETTLING READS
 
-pub number_is : (kept : List KeptNumber) (t : Tuple) (client : ℕ) →
+number_is : (kept : List KeptNumber) (t : Tuple) (client : ℕ) →
     unwrap_or (number_of (table_of kept) t client) 0 ≡ number_or_zero (kept_number t client kept)
 number_is kept t client =
     let i : Incarnation = record { tuple = t; client = client } in

@@ -9,7 +9,7 @@ use Rattle.inet_frame.specs.Counted.{counted, tuple_of, client_tuple_of}
 use Rattle.inet_frame.specs.Fields.{TcpFields}
 use Rattle.inet_frame.specs.declared.tuple.Tuple.{Tuple}
 use Rattle.tcp_track.specs.Laws.{Call, takes, trims, commits, call_after}
-use Rattle.tcp_track.specs.LineFields.{LineFields, fields_after, fields_trimmed}
+use Rattle.tcp_track.specs.LineFields.{LineFields, fields_after}
 use Rattle.tcp_track.specs.Segments.{is_refusal, may_open, same_tuple}
 use Rattle.tcp_track.specs.Tracking.{Tracking, commit_entry, entry_of, entry_or_none, line_at, nothing_tracked, put_entry, taken, tracking_after, tracking_with, trim_entry, trimmed}
 use Rattle.tcp_track.specs.declared.openings.Opening.{Opening}

@@ -6,8 +6,7 @@ use Rattle.inet_frame.specs.Counted.{counted, client_tuple_of}
 use Rattle.inet_frame.specs.Fields.{TcpFields}
 use Rattle.inet_frame.specs.declared.tuple.Tuple.{Tuple}
 use Rattle.tcp_track.specs.Laws.{Call, takes, trims, commits, items_of}
-use Rattle.tcp_track.specs.Lines.{Item, sent}
-use Rattle.tcp_track.specs.Stands.{segments}
+use Rattle.tcp_track.specs.Lines.{Item}
 use Rattle.tcp_track.specs.declared.openings.Incarnation.{Incarnation}
 use Rattle.tcp_track.specs.declared.openings.Opening.{Opening}
 use Rattle.seq_rewriter.specs.Kept.{KeptNumbers}
