@@ -1,0 +1,11 @@
+pub mod TrackLemmas
+pub mod NumberLemmas
+pub mod ProgressLemmas
+pub mod RestartLemmas
+pub mod CallLemmas
+pub mod AlikeLemmas
+pub mod LowLemmas
+pub mod WholeLemmas
+pub mod SettleLemmas
+pub mod CauseLemmas
+pub mod SurviveLemmas
