@@ -1,0 +1,6 @@
+mod BuildLemmas
+mod BytesLemmas
+mod GrowthLemmas
+mod LineLemmas
+mod RangeLemmas
+mod ShapeLemmas
