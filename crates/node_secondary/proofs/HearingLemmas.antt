@@ -19,6 +19,9 @@ use Rattle.node_parts.specs.Reading.{Reading}
 use Rattle.node_secondary.specs.Answers.{IsAnswered}
 use Rattle.node_secondary.specs.Hearing.{IsOther, IsPart, hear_due, hear_part, is_due, is_due_at, is_due_within, keep_part, told, told_of}
 use Rattle.node_secondary.specs.Node.{IsLoadable, Node}
+use Rattle.node_secondary.specs.Steps.{is_due_to}
+use Rattle.node_secondary.specs.Survivor.{Second, alone, hears, second_with}
+use Rattle.out_compare.specs.Comparing.{Comparing}
 use Rattle.node_secondary.specs.declared.under_way.UnderWay.{UnderWay}
 use Rattle.node_secondary.specs.declared.under_way.UnderWay.TheVariants.{Nothing, Begun, Heard}
 
@@ -101,31 +104,41 @@ when_false true x y e = absurd (false≢true (sym e))
 when_false false x y e = refl
 
 -- a message that isn't due
-pub refused_by : (n : Node) (m : Message) (k : ℕ) → is_due n m ≡ false → k ≡ number_of_kind (kind_of m) →
-    IsAnswered n (Ok m) (Err (NotDue k)) n
-refused_by n m k not e = record {
+pub refused_by : (s : Second) (m : Message) (k : ℕ) → is_due_to s m ≡ false → k ≡ number_of_kind (kind_of m) →
+    IsAnswered s (Ok m) (Err (NotDue k)) s
+refused_by (hears n) m k not e = record {
   answer = ap (λ (x : ℕ). let r : Result Told HearFault = Err (NotDue x) in r) e
       ∙ when_false (is_due n m) (let r : Result Told HearFault = Ok (told_of n m) in r)
       (Err (NotDue (number_of_kind (kind_of m)))) not;
-  left = when_false (is_due n m) (hear_due n m) n not;
+  left = ap hears (when_false (is_due n m) (hear_due n m) n not);
+}
+refused_by (alone n) m k not e = record {
+  answer = ap (λ (x : ℕ). let r : Result Told HearFault = Err (NotDue x) in r) e;
+  left = refl;
 }
 
 -- one that is
-pub heard_by : (n new : Node) (m : Message) (t : Told) → is_due n m ≡ true → new ≡ hear_due n m → t ≡ told_of n m →
-    IsAnswered n (Ok m) (Ok t) new
-heard_by n new m t due left told = record {
-  answer = ap (λ (x : Told). let r : Result Told HearFault = Ok x in r) told
-      ∙ when_true (is_due n m) (let r : Result Told HearFault = Ok (told_of n m) in r)
-      (Err (NotDue (number_of_kind (kind_of m)))) due;
-  left = left ∙ when_true (is_due n m) (hear_due n m) n due;
-}
+pub heard_by : (n new : Node) (x y : Option Comparing) (m : Message) (t : Told) → x ≡ None → y ≡ None →
+    is_due n m ≡ true → new ≡ hear_due n m → t ≡ told_of n m →
+    IsAnswered (second_with n x) (Ok m) (Ok t) (second_with new y)
+heard_by n new x y m t none still due left told =
+    subst (λ (a : Option Comparing). IsAnswered (second_with n a) (Ok m) (Ok t) (second_with new y)) (sym none)
+    (subst (λ (b : Option Comparing). IsAnswered (hears n) (Ok m) (Ok t) (second_with new b)) (sym still) answered)
+  where
+    answered : IsAnswered (hears n) (Ok m) (Ok t) (hears new)
+    answered = record {
+      answer = ap (λ (x : Told). let r : Result Told HearFault = Ok x in r) told
+          ∙ when_true (is_due n m) (let r : Result Told HearFault = Ok (told_of n m) in r)
+          (Err (NotDue (number_of_kind (kind_of m)))) due;
+      left = ap hears (left ∙ when_true (is_due n m) (hear_due n m) n due);
+    }
 
 -- bytes that are none
-pub none_by : (n : Node) (f : WireFault) → IsAnswered n (Err f) (Err (NoMessage f)) n
-none_by n f = record { answer = refl; left = refl }
+pub none_by : (s : Second) (f : WireFault) → IsAnswered s (Err f) (Err (NoMessage f)) s
+none_by s f = record { answer = refl; left = refl }
 
 -- of any reading of the bytes
-pub answered_by : (old new : Node) (r reading : Reading) (result : Result Told HearFault) →
+pub answered_by : (old new : Second) (r reading : Reading) (result : Result Told HearFault) →
     IsAnswered old r result new → r ≡ reading → IsAnswered old reading result new
 answered_by old new r reading result a e = subst (λ (x : Reading). IsAnswered old x result new) e a
 

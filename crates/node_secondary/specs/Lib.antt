@@ -1,5 +1,9 @@
 pub mod Node
 pub mod Turns
 pub mod Hearing
+pub mod Survivor
+pub mod Inside
+pub mod Steps
 pub mod Answers
 pub mod Calls
+pub mod Since

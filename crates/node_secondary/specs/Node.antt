@@ -1,16 +1,17 @@
 -- A secondary as plain data: its guest, what its guest has sent, the numbers that it keeps, the
 -- frames and messages that wait, and what it has heard of a checkpoint that isn't whole yet.
-use Rattle.std.specs.Prelude.{ℕ, Bool, true, false, IsTrue, List, ⊤}
+use Rattle.std.specs.Prelude.{ℕ, Bool, true, false, IsTrue, List, Option, ⊤}
 use Rattle.tcp_track.specs.Tracking.{Tracking}
 use Rattle.seq_rewriter.specs.Kept.{KeptNumbers}
 use Rattle.frame_mirror.specs.declared.ring.Waiting.{Waiting}
 use Rattle.state_wire.specs.Guest.{Kind, Meaning}
 use Rattle.colo_wire.specs.declared.messages.Message.{Message}
+use Rattle.out_compare.specs.Comparing.{Comparing}
 use Rattle.node_secondary.specs.declared.under_way.UnderWay.{UnderWay}
 use Rattle.node_secondary.specs.declared.under_way.UnderWay.TheVariants.{Nothing, Begun, Heard}
 
 -- a secondary with a guest of any type; `committed` is the number of the last checkpoint, 0 where
--- there was none
+-- there was none; `alone` is what it compares once it is alone
 pub record Held (G : Type 0) : Type 0 where
   pub guest : G
   pub inbox : List Waiting
@@ -19,6 +20,7 @@ pub record Held (G : Type 0) : Type 0 where
   pub waits : List Message
   pub committed : ℕ
   pub under_way : UnderWay
+  pub alone : Option Comparing
   pub spent : Bool
 
 -- the same with what the guest means

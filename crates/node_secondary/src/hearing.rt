@@ -10,6 +10,8 @@ ghost use Rattle.node_secondary.specs.Node.{node_of};
 ghost use Rattle.node_secondary.specs.Hearing.{IsOther, commit, hear_due, hear_frame, hear_number, hear_state, is_due, told, told_of};
 ghost use Rattle.node_parts.specs.Reading.{Reading, Reads};
 ghost use Rattle.node_secondary.specs.Answers.{IsAnswered};
+ghost use Rattle.node_secondary.specs.Steps.{is_due_to};
+ghost use Rattle.node_secondary.specs.Survivor.{second_of};
 ghost use Rattle.node_secondary.specs.declared.under_way.UnderWay.TheVariants as under_way;
 
 use crate::due::is_due;
@@ -43,22 +45,22 @@ impl<G: Guest + Drop> Secondary<G> {
     /// last, where there is room; a number is kept where none is kept for its incarnation, and the
     /// one that is kept goes to the primary as a message. What is heard from the begin of a
     /// checkpoint on is kept apart, until its end makes guest, inbox, lines and numbers those of
-    /// the checkpoint, and it is acknowledged. Nothing is released.
+    /// the checkpoint, and it is acknowledged. Nothing is released. A node alone hears nothing.
     ///
     /// `NoMessage` comes exactly where the bytes aren't one whole message, and `NotDue`, with the
     /// kind, exactly where the message isn't due; all is as before then. After `NoMemory` no
     /// message was put.
-    #[tactic(auto, using(crate::proofs::HearingLemmas::none_by, crate::proofs::HearingLemmas::answered_by))]
-    pub fn hear(&mut self, message: &[u8], _out: &mut Frames) -> Result<Told, HearFault>
+    #[tactic(auto, using(crate::proofs::HearingLemmas::none_by, crate::proofs::HearingLemmas::answered_by, crate::proofs::LoneLemmas::lone_spent))]
+    pub fn hear(&mut self, message: &[u8], out: &mut Frames) -> Result<Told, HearFault>
         ensures answered { result ≢ Err hear_fault.NoMemory → (reading : Reading)
-            × Reads message.now reading
-            × IsAnswered (node_of G.meaning self.old) reading result (node_of G.meaning self.new) }
+            × Reads message.now reading × IsAnswered (second_of G.meaning self.old) reading result
+            (second_of G.meaning self.new) }
         ensures each { (reading : Reading) → Reads message.now reading →
-            result ≢ Err hear_fault.NoMemory →
-            IsAnswered (node_of G.meaning self.old) reading result (node_of G.meaning self.new) }
+            result ≢ Err hear_fault.NoMemory → IsAnswered (second_of G.meaning self.old) reading
+            result (second_of G.meaning self.new) }
         ensures refused { IfErr result (λ f. f ≢ hear_fault.NoMemory → self.new ≡ self.old) }
         ensures unsaid { OnErr result (self.new.waits ≡ self.old.waits) }
-        ensures released { _out.new ≡ _out.old }
+        ensures released { out.new ≡ out.old }
         ensures spent { self.old.spent ≡ true → result ≡ Err hear_fault.NoMemory }
         ensures failed { result ≡ Err hear_fault.NoMemory → self.new.spent ≡ true }
         ensures going { result ≢ Err hear_fault.NoMemory → self.new.spent ≡ false }
@@ -76,20 +78,36 @@ impl<G: Guest + Drop> Secondary<G> {
         }
     }
 
+    /// Says whether a message is due. It takes no memory.
+    fn is_due(&self, message: &Message) -> bool
+        ensures value { result ≡ is_due_to (second_of G.meaning self.now) message.now }
+        ensures hears { result ≡ true → self.now.alone ≡ None }
+        ensures due { result ≡ true → is_due (node_of G.meaning self.now) message.now ≡ true }
+    {
+        match &self.alone {
+            Some(_) => false,
+            None => is_due(
+                &self.guest,
+                self.committed.wrapping_add(1),
+                &self.under_way,
+                message,
+            ),
+        }
+    }
+
     /// Hears a message, where it is due.
-    #[tactic(auto, using(crate::proofs::HearingLemmas::refused_by, crate::proofs::HearingLemmas::heard_by))]
+    #[tactic(auto, using(crate::proofs::HearingLemmas::refused_by, crate::proofs::HearingLemmas::heard_by, crate::proofs::LoneLemmas::lone_spent))]
     fn hear_message(&mut self, message: Message) -> Result<Told, HearFault>
         requires message { IsMessage message }
         requires going { self.old.spent ≡ false }
         ensures answered { result ≢ Err hear_fault.NoMemory → IsAnswered
-            (node_of G.meaning self.old) (Ok message) result (node_of G.meaning self.new) }
+            (second_of G.meaning self.old) (Ok message) result (second_of G.meaning self.new) }
         ensures refused { IfErr result (λ f. f ≢ hear_fault.NoMemory → self.new ≡ self.old) }
         ensures unsaid { OnErr result (self.new.waits ≡ self.old.waits) }
         ensures failed { result ≡ Err hear_fault.NoMemory → self.new.spent ≡ true }
         ensures going { result ≢ Err hear_fault.NoMemory → self.new.spent ≡ false }
     {
-        let next = self.committed.wrapping_add(1);
-        if !is_due(&self.guest, next, &self.under_way, &message) {
+        if !self.is_due(&message) {
             return Err(HearFault::NotDue(kind_number(&message)));
         }
         match self.hear_due(message) {
@@ -106,10 +124,12 @@ impl<G: Guest + Drop> Secondary<G> {
     fn hear_due(&mut self, message: Message) -> Result<Told, NoMemory>
         requires message { IsMessage message }
         requires due { is_due (node_of G.meaning self.old) message ≡ true }
+        requires hears { self.old.alone ≡ None }
         ensures after { OnOk result (node_of G.meaning self.new
             ≡ hear_due (node_of G.meaning self.old) message) }
         ensures told { IfOk result (λ t. t ≡ told_of (node_of G.meaning self.old) message) }
         ensures unsaid { OnErr result (self.new.waits ≡ self.old.waits) }
+        ensures hears { self.new.alone ≡ None }
         ensures still { self.new.spent ≡ self.old.spent }
     {
         match message {
@@ -138,10 +158,12 @@ impl<G: Guest + Drop> Secondary<G> {
 
     /// Hears a client's frame. It takes no memory.
     fn hear_frame(&mut self, waiting: Waiting) -> Told
-        requires { is_accepted waiting.frame ≡ true }
+        requires accepted { is_accepted waiting.frame ≡ true }
+        requires hears { self.old.alone ≡ None }
         ensures after { node_of G.meaning self.new
             ≡ hear_frame (node_of G.meaning self.old) waiting }
         ensures told { result ≡ told 1 (not (has_room self.old.inbox)) None }
+        ensures hears { self.new.alone ≡ None }
         ensures still { self.new.spent ≡ self.old.spent }
     {
         trim_lines(&mut self.lines, &waiting);
@@ -149,11 +171,14 @@ impl<G: Guest + Drop> Secondary<G> {
     }
 
     /// Hears a number.
+    #[tactic(auto, using(crate::proofs::LoneLemmas::lone_by))]
     fn hear_number(&mut self, tuple: Tuple, client: u32, number: u32) -> Result<Told, NoMemory>
+        requires hears { self.old.alone ≡ None }
         ensures after { OnOk result (node_of G.meaning self.new
             ≡ hear_number (node_of G.meaning self.old) tuple client number) }
         ensures told { IfOk result (λ t. t ≡ told 2 false None) }
         ensures unsaid { OnErr result (self.new.waits ≡ self.old.waits) }
+        ensures hears { self.new.alone ≡ None }
         ensures still { self.new.spent ≡ self.old.spent }
     {
         keep_number(
@@ -169,10 +194,12 @@ impl<G: Guest + Drop> Secondary<G> {
 
     /// Hears that a checkpoint begins. It takes no memory.
     fn hear_begin(&mut self) -> Told
+        requires hears { self.old.alone ≡ None }
         ensures after { node_of G.meaning self.new ≡ record (node_of G.meaning self.old) {
           under_way = under_way.Begun;
         } }
         ensures told { result ≡ told 3 false None }
+        ensures hears { self.new.alone ≡ None }
         ensures still { self.new.spent ≡ self.old.spent }
     {
         self.under_way = UnderWay::Begun;
@@ -182,11 +209,13 @@ impl<G: Guest + Drop> Secondary<G> {
     /// Hears a state that the guest accepts.
     #[tactic(auto, using(crate::proofs::HearingLemmas::state_loadable))]
     fn hear_state(&mut self, bytes: Contents) -> Result<Told, NoMemory>
-        requires { (G.meaning self.old.guest).kind.accepts bytes ≡ true }
+        requires accepted { (G.meaning self.old.guest).kind.accepts bytes ≡ true }
+        requires hears { self.old.alone ≡ None }
         ensures after { OnOk result (node_of G.meaning self.new
             ≡ hear_state (node_of G.meaning self.old) bytes) }
         ensures told { IfOk result (λ t. t ≡ told 4 false None) }
         ensures unsaid { OnErr result (self.new.waits ≡ self.old.waits) }
+        ensures hears { self.new.alone ≡ None }
         ensures still { self.new.spent ≡ self.old.spent }
     {
         let kept = begin_kept(self.alloc, &self.guest, bytes)?;
@@ -200,10 +229,12 @@ impl<G: Guest + Drop> Secondary<G> {
         requires other { IsOther message.now }
         requires message { IsMessage message.now }
         requires due { is_due (node_of G.meaning self.old) message.now ≡ true }
+        requires hears { self.old.alone ≡ None }
         ensures after { OnOk result (node_of G.meaning self.new
             ≡ hear_due (node_of G.meaning self.old) message.now) }
         ensures told { IfOk result (λ t. t ≡ told_of (node_of G.meaning self.old) message.now) }
         ensures unsaid { OnErr result (self.new.waits ≡ self.old.waits) }
+        ensures hears { self.new.alone ≡ None }
         ensures still { self.new.spent ≡ self.old.spent }
     {
         let under_way = mem::replace(&mut self.under_way, UnderWay::Nothing);
@@ -214,10 +245,12 @@ impl<G: Guest + Drop> Secondary<G> {
     /// Hears the end of a checkpoint.
     #[tactic(auto, using(crate::proofs::HearingLemmas::loadable_heard))]
     fn commit(&mut self, e: u32) -> Result<Told, NoMemory>
+        requires hears { self.old.alone ≡ None }
         ensures after { OnOk result (node_of G.meaning self.new
             ≡ commit (node_of G.meaning self.old) e self.old.under_way) }
         ensures told { IfOk result (λ t. t ≡ told 11 false (Some e)) }
         ensures unsaid { OnErr result (self.new.waits ≡ self.old.waits) }
+        ensures hears { self.new.alone ≡ None }
         ensures still { self.new.spent ≡ self.old.spent }
     {
         match mem::replace(&mut self.under_way, UnderWay::Nothing) {
@@ -231,14 +264,16 @@ impl<G: Guest + Drop> Secondary<G> {
     }
 
     /// Makes guest, inbox, lines and numbers those of a checkpoint, and acknowledges it.
-    #[tactic(auto, using(crate::proofs::HearingLemmas::ack_spells))]
+    #[tactic(auto, using(crate::proofs::HearingLemmas::ack_spells, crate::proofs::LoneLemmas::lone_by))]
     fn load(&mut self, kept: KeptCheckpoint, e: u32) -> Result<Told, NoMemory>
         requires accepted { IsTrue ((G.meaning self.old.guest).kind.accepts kept.state) }
         requires outside { self.old.under_way ≡ under_way.Nothing }
+        requires hears { self.old.alone ≡ None }
         ensures after { OnOk result (node_of G.meaning self.new
             ≡ commit (node_of G.meaning self.old) e (under_way.Heard kept)) }
         ensures told { IfOk result (λ t. t ≡ told 11 false (Some e)) }
         ensures unsaid { OnErr result (self.new.waits ≡ self.old.waits) }
+        ensures hears { self.new.alone ≡ None }
         ensures still { self.new.spent ≡ self.old.spent }
     {
         let loaded = kept.load(&mut self.guest);

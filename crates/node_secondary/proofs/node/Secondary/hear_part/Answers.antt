@@ -14,7 +14,7 @@ invariant_of-self-2 g c =
     cc (c.in_ok-self-inside.ensures, c.replace-under_way.ensures.value) in
     let kind = (g.G.Guest.meaning old.guest).kind in
     let after = kept_loadable kind old.under_way c.in_ok-self-inside.field-0 m kept c.self.invariant.1 in
-    (c.self.invariant.0, after, c.self.invariant.2)
+    (c.self.invariant.0, after, c.self.invariant.2, c.self.invariant.3)
 
 pub returns-clause-after : goal.returns-clause-after
 returns-clause-after g c =
