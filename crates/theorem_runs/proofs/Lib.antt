@@ -1,0 +1,16 @@
+pub mod Settled
+pub mod ListFacts
+pub mod Lone
+pub mod Checkpoints
+pub mod Cuts
+pub mod Items
+pub mod Growing
+pub mod Waiting
+pub mod Running
+pub mod Orders
+pub mod Parts
+pub mod EachLaw
+pub mod Accounting
+pub mod Accounts
+pub mod Stops
+pub mod Names

@@ -1,0 +1,3 @@
+pub mod Links
+pub mod Runs
+pub mod Laws
