@@ -14,3 +14,7 @@ pub mod Accounting
 pub mod Accounts
 pub mod Stops
 pub mod Names
+pub mod Spelling
+pub mod States
+pub mod Telling
+pub mod Pausing

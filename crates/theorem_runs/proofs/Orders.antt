@@ -116,7 +116,7 @@ beside_no_end (m ∷ ms) h = by m h.0 (beside_no_end ms h.1)
     by (Sent frame) b none = absurd b
     by (Ack e) b none = absurd b
 
-until_with : (ms xs : List Message) → has_end ms ≡ true → until_end (ms ++ xs) ≡ until_end ms
+pub until_with : (ms xs : List Message) → has_end ms ≡ true → until_end (ms ++ xs) ≡ until_end ms
 until_with [] xs e = absurd (true≢false (sym e))
 until_with (m ∷ ms) xs e = by (is_end m) e (λ f. until_with ms xs f)
   where
@@ -125,7 +125,7 @@ until_with (m ∷ ms) xs e = by (is_end m) e (λ f. until_with ms xs f)
     by true f more = refl
     by false f more = ap (λ (ns : List Message). m ∷ ns) (more f)
 
-until_without : (ms xs : List Message) → has_end ms ≡ false → until_end (ms ++ xs) ≡ ms ++ until_end xs
+pub until_without : (ms xs : List Message) → has_end ms ≡ false → until_end (ms ++ xs) ≡ ms ++ until_end xs
 until_without [] xs e = refl
 until_without (m ∷ ms) xs e = by (is_end m) e (λ f. until_without ms xs f)
   where
@@ -259,7 +259,7 @@ part_no_end (Known t client number) h = absurd h
 part_no_end (Sent frame) h = absurd h
 part_no_end (Ack e) h = absurd h
 
-parts_no_end : (ms : List Message) → AllByRecursion IsPart ms → has_end ms ≡ false
+pub parts_no_end : (ms : List Message) → AllByRecursion IsPart ms → has_end ms ≡ false
 parts_no_end [] h = refl
 parts_no_end (m ∷ ms) h = or_from (is_end m) (has_end ms) (part_no_end m h.0).0 (parts_no_end ms h.1)
 

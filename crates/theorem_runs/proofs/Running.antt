@@ -60,7 +60,7 @@ pub record StartsPlain (a : Start) : Type 0 where
   pub bytes : All AreBytes a.stream
 
 -- THE FRAME OF A TURN
-kept_frame : (stream : List (List ℕ)) (i : ℕ) (kept : List ℕ) → All AreBytes stream
+pub kept_frame : (stream : List (List ℕ)) (i : ℕ) (kept : List ℕ) → All AreBytes stream
     → accepted_frame stream i ≡ Some kept → IsKept (stream_frame stream i) kept
 unfolding accepted_frame
 kept_frame stream i kept bytes e = by (slice_get stream i) refl e

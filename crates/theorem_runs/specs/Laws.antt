@@ -3,7 +3,7 @@ use Rattle.std.specs.Prelude.{List}
 use Rattle.replay_log.specs.declared.lines.Line.{Line}
 use Rattle.pair_theorem.specs.History.{pair_log, past_at}
 use Rattle.pair_theorem.specs.Log.{HasOneStop}
-use Rattle.pair_theorem.specs.LogParts.{FilesPart, NamesPart, SecondaryPart, files_of, nodes_at}
+use Rattle.pair_theorem.specs.LogParts.{FilesPart, NamesPart, SecondaryPart, ToldPart, files_of, nodes_at}
 use Rattle.pair_theorem.specs.Past.{Start}
 use Rattle.pair_theorem.specs.Starts.{IsStart}
 use Rattle.theorem_runs.specs.Links.{OneCheckpoint}
@@ -53,3 +53,9 @@ FilesOfEachLog =
 abbrev pub NamesOfEachLog : Type 0
 NamesOfEachLog =
     (a : Start) (lines : List Line) → IsStart a → HasOneStop lines → NamesPart a (pair_log a lines)
+
+-- TOLD, on every schedule
+abbrev pub ToldOfEachLog : Type 0
+ToldOfEachLog =
+    (a : Start) (lines : List Line) → IsStart a
+    → ToldPart a (pair_log a lines) (nodes_at a (pair_log a lines))

@@ -3,6 +3,8 @@ use Rattle.std.specs.Prelude.{◌≡◌, ◌<◌, ◌≤◌, ℕ, suc, Bool, tru
 use Rattle.std.specs.List.{AllByRecursion, filter_map, list_any}
 use Rattle.tcp_track.specs.Lines.{sent_of}
 use Rattle.tcp_track.specs.Stands.{segments}
+use Rattle.state_wire.specs.Guest.{GuestState, Kind}
+use Rattle.state_wire.specs.Regular.{FitsKind, GuestBytes}
 use Rattle.frame_mirror.specs.declared.ring.Waiting.{Waiting}
 use Rattle.colo_wire.specs.declared.messages.Message.{Message}
 use Rattle.colo_wire.specs.declared.messages.Message.TheVariants.{Frame, End}
@@ -12,10 +14,11 @@ use Rattle.splice_run.specs.Runs.{accepted_frame, is_accepted, run_turns}
 use Rattle.splice_run.specs.Single.{Cut, cut_of, turns_at}
 use Rattle.splice_run.specs.Tokens.{Taken, tokens}
 use Rattle.pair_theorem.specs.History.{entries}
-use Rattle.pair_theorem.specs.LogParts.{accepted_indices, contains_index, frames_on, inbox_indices, is_full_for, loses}
+use Rattle.pair_theorem.specs.LogParts.{accepted_indices, contains_index, frames_on, inbox_indices, is_full_for, loses, told_secondary}
 use Rattle.pair_theorem.specs.Messages.{waiting_in}
 use Rattle.pair_theorem.specs.Past.{NodeRun, Past, Start, Step, is_secondary_stop, secondary_releases}
 use Rattle.pair_theorem.specs.Places.{events}
+use Rattle.theorem_runs.specs.Links.{copied_parts}
 
 -- THE CUT: the marks of a log cut its turns into those of the primary, of the secondary, and of the
 -- primary at the last capture
@@ -159,3 +162,26 @@ pub record AccountsFor (a : Start) (steps : List Step) (past : Past) : Type 0 wh
       → AllByRecursion (λ i. IsTrue (is_or_was a steps (secondary_all past) i)) (accepted_indices steps)
   pub copy : has_end past.to_secondary ≡ true
       → AllByRecursion (λ i. IsTrue (contains_index i (copy_order past))) (accepted_indices steps)
+
+-- THE STATES of both guests, and the captured one, are states of bytes with the kind's sizes
+pub record IsState (kind : Kind) (state : GuestState) : Type 0 where
+  pub fits : FitsKind kind state
+  pub bytes : GuestBytes state
+
+pub record AreStates (kind : Kind) (past : Past) : Type 0 where
+  pub primary : IsState kind past.primary.run.state
+  pub secondary : IsState kind past.secondary.run.state
+  pub copy : IsState kind past.copy.run.run.state
+
+abbrev pub StatesFit : Start → List Step → Past → Type 0
+StatesFit a steps past = AreStates a.kind past
+
+-- WHAT THE SECONDARY WAS TOLD, and what it is to hear before the next End, ends with a whole
+-- checkpoint
+pub record EndsWithCopy (steps : List Step) (past : Past) : Type 0 where
+  pub earlier : List Message
+  pub whole : told_secondary steps ++ until_end past.to_secondary
+      ≡ earlier ++ copied_parts past.copy past.captures
+
+abbrev pub Tells : List Step → Past → Type 0
+Tells steps past = has_end past.to_secondary ≡ true → EndsWithCopy steps past

@@ -1,6 +1,6 @@
 //! What holds of every log. Each law is the contract of a call that does nothing.
 
-ghost use Rattle.theorem_runs.specs.Laws.{FilesOfEachLog, FramesWaitRightly, ItemsAreSent, LogCutsTurns, NamesOfEachLog, OneCheckpointAtATime, RunsAreTheLogs, SecondaryOfEachLog};
+ghost use Rattle.theorem_runs.specs.Laws.{FilesOfEachLog, FramesWaitRightly, ItemsAreSent, LogCutsTurns, NamesOfEachLog, OneCheckpointAtATime, RunsAreTheLogs, SecondaryOfEachLog, ToldOfEachLog};
 
 /// At most one checkpoint is on its way. Its messages come in their order, with nothing between
 /// them; before them may stand frames and numbers, behind its End frames alone; and its
@@ -57,4 +57,11 @@ pub fn files_are_of_one_run()
 #[tactic(auto, using(crate::proofs::Names::names_hold))]
 pub fn each_log_names_one_run()
     ensures { NamesOfEachLog }
+{}
+
+/// Right after an End is delivered the secondary's guest is in the state that all it was told spells
+/// over the start's.
+#[tactic(auto, using(crate::proofs::Telling::told_holds))]
+pub fn the_secondary_was_told_its_state()
+    ensures { ToldOfEachLog }
 {}

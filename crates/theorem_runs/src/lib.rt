@@ -10,4 +10,5 @@ mod law;
 pub use law::{
     each_log_names_one_run, files_are_of_one_run, frames_wait_rightly, items_are_sent,
     log_cuts_turns, one_checkpoint_at_a_time, runs_are_the_logs, secondary_is_in_its_run,
+    the_secondary_was_told_its_state,
 };
