@@ -1,11 +1,16 @@
 -- Both guests, their inboxes and the link to the secondary hold bytes alone, so that the fields of all that was
 -- sent are in their ranges.
-use Rattle.std.proofs.Common.{◌≡◌, ◌==◌, ℕ, Bool, true, false, ◌&&◌, List, [], ◌∷◌, ◌++◌, append-nil, map, fold, Option, None, Some, refl, sym, ap, subst, ◌∙◌, All}
+use Rattle.tcp_track.specs.Segments.{opening_in, may_open}
+use Rattle.std.specs.List.{list_any}
+use Rattle.std.proofs.lemmas.List.Elements.{All-map, All-push, All-weaker}
+use Rattle.tcp_track.specs.Lines.{Line, line}
+use Rattle.std.proofs.Common.{◌≡◌, ◌==◌, ◌<◌, ◌^◌, ℕ, Bool, not, true, false, ◌&&◌, List, [], ◌∷◌, ◌++◌, append-nil, map, fold, Option, None, Some, refl, sym, ap, subst, ◌∙◌, All}
 use Rattle.std.specs.List.{cons_option}
 use Rattle.std.specs.Option.{option_and_then}
 use Rattle.std.proofs.lemmas.Bool.{cond_both}
 use Rattle.std.proofs.lemmas.List.Elements.{All-append, All-cons, All-head, All-nil, All-tail, filter_map-append}
-use Rattle.inet_frame.specs.Counted.{counted, from_guest, guest_address, tcp_in}
+use Rattle.inet_frame.specs.Counted.{counted, from_guest, guest_address, tcp_in, tuple_of}
+use Rattle.inet_frame.specs.declared.tuple.Tuple.{Tuple}
 use Rattle.inet_frame.specs.Fields.{TcpFields}
 use Rattle.inet_frame.specs.Laws.{AreInRange}
 use Rattle.inet_frame.proofs.FieldLemmas.{in_range}
@@ -19,11 +24,14 @@ use Rattle.frame_mirror.specs.declared.ring.Waiting.{Waiting}
 use Rattle.state_wire.specs.Guest.{GuestTurn, Kind}
 use Rattle.state_wire.specs.Regular.{FitsKind, FrameBytes, GuestBytes, IsRegular}
 use Rattle.splice_run.specs.Tokens.{Taken}
+use Rattle.settle_rules.specs.Numbers.{KeptNumber, is_number_of, keep_number, learn, learn_all, learn_number, new_number}
 use Rattle.settle_rules.specs.OwnFrames.{OwnFrames, own_after}
+use Rattle.settle_rules.specs.Survive.{Survival, survive_line, survive_tuple}
 use Rattle.pair_theorem.specs.ClientFrames.{trim_items, trims_by}
 use Rattle.pair_theorem.specs.GuestTurns.{TurnMade, TurnNumbers, add_turn, guest_turn, raise_waiting, taken_turn, turn_from, turn_if, turn_with, turn_without}
 use Rattle.pair_theorem.specs.Past.{NodeRun}
 use Rattle.theorem_frames.specs.Shapes.{AreSentInRange}
+use Rattle.theorem_frames.proofs.RangeLemmas.{OpeningFits, opening_fits}
 
 -- SEGMENTS OF BYTES
 counted_is : (o : Option TcpFields) (s : TcpFields) → from_guest o ≡ Some s → o ≡ Some s
@@ -80,6 +88,74 @@ own_in_range own (s ∷ xs) h g =
     (more_in_range own.items (s ∷ []) h
     (All-cons AreInRange s [] (All-head AreInRange s xs g) (All-nil AreInRange)))
     (All-tail AreInRange s xs g)
+
+-- KEPT NUMBERS are sequence numbers
+abbrev pub NumberFits : KeptNumber → Type 0
+NumberFits k = k.number < 2 ^ 32
+
+new_number_fits : (numbers : List KeptNumber) (s : TcpFields) → AreInRange s → All NumberFits (new_number numbers s)
+unfolding new_number
+new_number_fits numbers s h =
+    let k : KeptNumber = record {
+      tuple = tuple_of s;
+      client = (opening_in s).client;
+      number = s.seq;
+      known = false;
+    } in
+    cond_both (may_open s && not (list_any (is_number_of (tuple_of s) (opening_in s).client) numbers)) (k ∷ []) []
+    (All NumberFits) (λ e. All-cons NumberFits k [] h.seq (All-nil NumberFits)) (λ e. All-nil NumberFits)
+
+-- the numbers kept by the own frames of an event, and those of them that are new
+pub record AreOwnNumbers (own : OwnFrames) : Type 0 where
+  pub all : All NumberFits own.numbers
+  pub new : All NumberFits own.new_numbers
+
+pub own_numbers_fit : (own : OwnFrames) (xs : List TcpFields) → AreOwnNumbers own → All AreInRange xs →
+    AreOwnNumbers (fold own_after own xs)
+own_numbers_fit own [] h g = h
+own_numbers_fit own (s ∷ xs) h g =
+    let new = new_number_fits own.numbers s (All-head AreInRange s xs g) in
+    own_numbers_fit (own_after own s) xs (record {
+      all = All-append NumberFits own.numbers (new_number own.numbers s) h.all new;
+      new = All-append NumberFits own.new_numbers (new_number own.numbers s) h.new new;
+    }) (All-tail AreInRange s xs g)
+
+pub kept_fit : (t : Tuple) (client number : ℕ) (known : Bool) (numbers : List KeptNumber) → number < 2 ^ 32 →
+    All NumberFits numbers → All NumberFits (keep_number t client number known numbers)
+kept_fit t client number known numbers small h =
+    let k : KeptNumber = record { tuple = t; client = client; number = number; known = known } in
+    cond_both (list_any (is_number_of t client) numbers) numbers (numbers ++ k ∷ []) (All NumberFits) (λ e. h)
+    (λ e. All-push NumberFits numbers k h small)
+
+learnt_fits : (t : Tuple) (client number : ℕ) (k : KeptNumber) → NumberFits k → NumberFits (learn t client number k)
+learnt_fits t client number k h =
+    cond_both (is_number_of t client k && k.number == number) (record k { known = true }) k NumberFits (λ e. h) (λ e. h)
+
+pub learnt_fit : (t : Tuple) (client number : ℕ) (numbers : List KeptNumber) → All NumberFits numbers →
+    All NumberFits (learn_number numbers t client number)
+learnt_fit t client number numbers h =
+    All-map NumberFits (learn t client number) numbers
+    (All-weaker NumberFits (λ (k : KeptNumber). NumberFits (learn t client number k)) (learnt_fits t client number)
+    numbers h)
+
+pub all_learnt_fit : (numbers : List KeptNumber) → All NumberFits numbers → All NumberFits (learn_all numbers)
+all_learnt_fit numbers h =
+    All-map NumberFits (λ (k : KeptNumber). record k { known = true }) numbers h
+
+-- what a survivor keeps: the numbers of its own openings too
+pub survived_fits : (x : Survival) (t : Tuple) (l : Line) (o : Option Opening) → OpeningFits o →
+    All NumberFits x.numbers → All NumberFits (survive_line x t l o).numbers
+unfolding survive_line
+survived_fits x t l None h g = g
+survived_fits x t l (Some o) h g = kept_fit t o.client o.own true x.numbers h.1 g
+
+pub survived_fit : (items : List Item) (x : Survival) (tuples : List Tuple) → AreSentInRange items →
+    All NumberFits x.numbers → All NumberFits (fold (survive_tuple items) x tuples).numbers
+unfolding survive_tuple
+survived_fit items x [] h g = g
+survived_fit items x (t ∷ tuples) h g =
+    survived_fit items (survive_tuple items x t) tuples h
+    (survived_fits x t (line t items) (line t items).opening (opening_fits items t h) g)
 
 -- A NODE
 pub record IsNodeOfBytes (kind : Kind) (node : NodeRun) (inbox : List Waiting) : Type 0 where

@@ -1,6 +1,10 @@
 mod BuildLemmas
 mod BytesLemmas
+mod CarryLemmas
+mod EachEvent
 mod GrowthLemmas
 mod LineLemmas
+mod PromptLemmas
 mod RangeLemmas
 mod ShapeLemmas
+mod ShownLemmas

@@ -22,12 +22,12 @@ record IsWhole (xs : List Symbol) : Type 0 where
   ends : Bool
   whole_is : xs ≡ whole_symbols bytes ends
 
-bytes_in-whole : (bytes : List ℕ) (ends : Bool) → bytes_in (map byte bytes ++ fin_if ends) ≡ bytes
+pub bytes_in-whole : (bytes : List ℕ) (ends : Bool) → bytes_in (map byte bytes ++ fin_if ends) ≡ bytes
 bytes_in-whole [] true = refl
 bytes_in-whole [] false = refl
 bytes_in-whole (b ∷ bytes) ends = ap (λ (bs : List ℕ). b ∷ bs) (bytes_in-whole bytes ends)
 
-has_ended-whole : (bytes : List ℕ) (ends : Bool) → has_ended (map byte bytes ++ fin_if ends) ≡ ends
+pub has_ended-whole : (bytes : List ℕ) (ends : Bool) → has_ended (map byte bytes ++ fin_if ends) ≡ ends
 has_ended-whole [] true = refl
 has_ended-whole [] false = refl
 has_ended-whole (b ∷ bytes) ends = has_ended-whole bytes ends
@@ -118,7 +118,7 @@ longer-nothing xs from = by (has_ended xs || nat_lt (length xs) from)
     by true = refl
     by false = ap (λ (ys : List Symbol). xs ++ ys) (drop-nothing (length xs - from)) ∙ append-nil xs
 
-carried : (own : ℕ) (s : TcpFields) → has_rst s.flags ≡ false → has_syn s.flags ≡ false →
+pub carried : (own : ℕ) (s : TcpFields) → has_rst s.flags ≡ false → has_syn s.flags ≡ false →
     symbols_in own s ≡ (if is_near own s then payload_symbols s else [])
 unfolding symbols_in
 carried own s r y =

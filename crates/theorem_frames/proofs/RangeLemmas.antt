@@ -1,4 +1,5 @@
 -- The fields of a line are in their ranges where those of all segments sent are.
+use Rattle.std.proofs.Common.{subst}
 use Rattle.std.proofs.Common.{◌≡◌, ℕ, ◌-◌, ◌<◌, ◌^◌, zero, suc, Bool, true, false, not, ◌&&◌, ◌||◌, ◌==◌, nat_lt, max, min, is_some, if◌then◌else◌, List, [], ◌∷◌, ◌++◌, length, take, drop, map, fold, Option, None, Some, refl, arith, All}
 use Rattle.std.specs.List.{find, list_any}
 use Rattle.std.proofs.lemmas.Bool.{cond_both}
@@ -12,9 +13,10 @@ use Rattle.inet_frame.specs.declared.tuple.Tuple.{Tuple}
 use Rattle.shared_definitions.specs.Bytes.{AreBytes}
 use Rattle.shared_definitions.proofs.ByteLemmas.{AreBytes-drop, AreBytes-take, AreBytes-zeros}
 use Rattle.tcp_track.specs.Lines.{Item, sent, trim, commit, Line, no_line, has_ended, opened_line, refused_line, longer, line_with, after_segment, trim_end, after_trim, line_after, line, order, order_after, sent_of}
-use Rattle.tcp_track.specs.Segments.{Symbol, syn, byte, fin, fin_if, syn_if, same_tuple, opens_anew, may_open, is_near, is_refusal, payload_symbols, start_of, symbols_in}
-use Rattle.tcp_track.specs.Stands.{is_of_client}
+use Rattle.tcp_track.specs.Segments.{Symbol, syn, byte, fin, fin_if, syn_if, same_tuple, opening_in, opens_anew, may_open, is_near, is_refusal, payload_symbols, start_of, symbols_in}
+use Rattle.tcp_track.specs.Stands.{is_of_client, opening_after, opening_of}
 use Rattle.tcp_track.specs.declared.openings.Opening.{Opening}
+use Rattle.tcp_track.proofs.SymbolLemmas.{line_fits}
 use Rattle.theorem_frames.specs.Shapes.{AreSentInRange}
 
 -- a byte of a stream is a byte
@@ -204,3 +206,21 @@ ordered_fit tuples (s ∷ said) h g =
 pub order_fits : (items : List Item) → AreSentInRange items → All TupleFits (order items)
 unfolding order
 order_fits items h = ordered_fit [] (sent_of items) h (All-nil TupleFits)
+
+-- THE OPENINGS
+abbrev pub OpeningFits : Option Opening → Type 0
+OpeningFits None = Unit {0}
+OpeningFits (Some o) = (o.client < 2 ^ 32) × (o.own < 2 ^ 32)
+
+openings_fit : (t : Tuple) (current : Option Opening) (said : List TcpFields) → All AreInRange said →
+    OpeningFits current → OpeningFits (fold (opening_after t) current said)
+openings_fit t current [] h g = g
+openings_fit t current (s ∷ said) h g =
+    openings_fit t (opening_after t current s) said (All-tail AreInRange s said h)
+    (cond_both (same_tuple (tuple_of s) t && may_open s) (Some (opening_in s)) current OpeningFits
+    (λ e. (omega arith, (All-head AreInRange s said h).seq)) (λ e. g))
+
+pub opening_fits : (items : List Item) (t : Tuple) → AreSentInRange items → OpeningFits (line t items).opening
+unfolding opening_of
+opening_fits items t h =
+    subst OpeningFits (line_fits t items).opened (openings_fit t None (sent_of items) h tt)

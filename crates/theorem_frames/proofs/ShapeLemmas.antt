@@ -1,6 +1,7 @@
 -- Every event keeps both guests, inboxes and the link to the secondary bytes, and releases segments of fields in
 -- their ranges, or the ARP reply that it owes.
-use Rattle.std.proofs.Common.{◌≡◌, ℕ, ◌+◌, Bool, true, false, List, [], ◌∷◌, ◌++◌, map, slice_get, Option, None, Some, refl, sym, ap, subst, ◌∙◌, All}
+use Rattle.std.proofs.lemmas.List.Elements.{All-map, All-filter}
+use Rattle.std.proofs.Common.{◌≡◌, ◌<◌, ◌^◌, ℕ, ◌+◌, Bool, true, false, List, [], ◌∷◌, ◌++◌, map, slice_get, Option, None, Some, refl, sym, ap, subst, ◌∙◌, All}
 use Rattle.std.specs.List.{enumerate_from, flat_map}
 use Rattle.std.proofs.lemmas.Bool.{cond_both}
 use Rattle.std.proofs.lemmas.List.Elements.{All-append, All-cons, All-head, All-nil, All-push, All-tail, All-weaker}
@@ -11,7 +12,7 @@ use Rattle.inet_frame.specs.declared.tuple.Tuple.{Tuple}
 use Rattle.shared_definitions.specs.Bytes.{AreBytes}
 use Rattle.tcp_track.specs.Lines as lines
 use Rattle.tcp_track.specs.Lines.{Item, commit, order}
-use Rattle.tcp_track.specs.Stands.{segments}
+use Rattle.tcp_track.specs.Stands.{is_of_client, segments}
 use Rattle.settle_rules.specs.Numbers.{KeptNumber, learn_number, thin}
 use Rattle.settle_rules.specs.OwnFrames.{no_own_frames, own_frames}
 use Rattle.settle_rules.specs.Release.{Released, reply, tcp}
@@ -39,23 +40,23 @@ use Rattle.settle_rules.specs.Pieces.{pieces_of}
 use Rattle.pair_theorem.specs.Checkpoint.{capture, checkpoint_messages, next_capture, row_messages}
 use Rattle.pair_theorem.specs.ClientFrames.{trims_by}
 use Rattle.pair_theorem.specs.Events.{Ended, Settling, accept_by, ack_ended, acknowledge, committed_items, ended_by, hear_frame, hear_number, is_full, known_ended, look_at, lose_links, mark_cause, no_frames, number_message, numbers_of, outcome_of, outcome_with, passed_frame, primary_ended, primary_hears, primary_survives, raise_count, restarts_in, scene_of, secondary_hears, secondary_survives, sent_ended, settle_event, survivor_ended, turn_primary, turn_secondary, turn_survivor, waiting_of}
-use Rattle.pair_theorem.specs.FrameParts.{IsShaped, ShapePart, reply_due, reply_in}
+use Rattle.pair_theorem.specs.FrameParts.{IsShaped, reply_due, reply_in}
 use Rattle.pair_theorem.specs.GuestTurns.{TurnMade}
 use Rattle.pair_theorem.specs.History.{pair_log, steps_from}
 use Rattle.pair_theorem.specs.Messages.{frame_message, waiting_in}
 use Rattle.pair_theorem.specs.Past.{NodeRun, Outcome, Past, Start, Step, boot, first_past, first_run, is_primary_stop, primary_stop, secondary_stop, silently}
-use Rattle.pair_theorem.specs.Starts.{boots}
+use Rattle.pair_theorem.specs.Starts.{IsStart, boots}
 use Rattle.pair_theorem.specs.TheRun.{stream_entry}
 use Rattle.pair_theorem.proofs.AllLemmas.{All_at}
 use Rattle.pair_theorem.proofs.EventCases.{Cases, each_case}
 use Rattle.theorem_frames.specs.Shapes.{AreSentInRange, IsBuilt, ShapeOfEachLog}
 use Rattle.theorem_frames.proofs.BuildLemmas.{settling_builds_lem, surviving_builds_lem}
-use Rattle.theorem_frames.proofs.BytesLemmas.{IsNodeOfBytes, IsTurnOfBytes, as_before, own_in_range, trims_in_range, turn_of_bytes}
+use Rattle.theorem_frames.proofs.BytesLemmas.{NumberFits, all_learnt_fit, kept_fit, learnt_fit, own_numbers_fit, survived_fit, IsNodeOfBytes, IsTurnOfBytes, as_before, own_in_range, trims_in_range, turn_of_bytes}
 
--- an accepted frame on the link
+-- an accepted frame or a number on the link
 abbrev HasBytes : Message → Type 0
 HasBytes (Frame index seen trim frame) = AreBytes frame
-HasBytes (Number t client number) = Unit {0}
+HasBytes (Number t client number) = number < 2 ^ 32
 HasBytes (Begin e) = Unit {0}
 HasBytes (State bytes) = Unit {0}
 HasBytes (Page k bytes) = Unit {0}
@@ -73,6 +74,9 @@ pub record IsOfBytes (kind : Kind) (past : Past) : Type 0 where
   pub primary : IsNodeOfBytes kind past.primary past.primary_inbox
   pub secondary : IsNodeOfBytes kind past.secondary past.secondary_inbox
   pub copy : IsNodeOfBytes kind past.copy.run past.copy.inbox
+  pub numbers : All NumberFits past.numbers
+  pub told : All NumberFits past.secondary_numbers
+  pub copied : All NumberFits past.copy.numbers
   pub link : All HasBytes past.to_secondary
 
 -- A CAPTURE: no message of a checkpoint is an accepted frame
@@ -125,13 +129,19 @@ messages_have past numbers e =
     (rows_have past.primary.items numbers (order past.primary.items)))
 
 captured : (kind : Kind) (past : Past) → IsOfBytes kind past → IsOfBytes kind (capture past)
-unfolding capture
+unfolding capture thin
 captured kind past h =
     let numbers = thin past.primary.items past.numbers in
+    let thinned =
+    All-filter (λ (k : KeptNumber). is_of_client (lines.line k.tuple past.primary.items).opening k.client) NumberFits
+    past.numbers h.numbers in
     record {
       primary = h.primary;
       secondary = h.secondary;
       copy = h.primary;
+      numbers = thinned;
+      told = h.told;
+      copied = thinned;
       link = All-append HasBytes past.to_secondary
           (checkpoint_messages past numbers (next_capture past) ++ End (next_capture past) ∷ []) h.link
           (All-push HasBytes (checkpoint_messages past numbers (next_capture past)) (End (next_capture past))
@@ -143,26 +153,30 @@ record IsEndedOfBytes (kind : Kind) (e : Ended) : Type 0 where
   after : IsOfBytes kind e.after
   out : All IsBuilt e.out
 
-numbers_have : (numbers : List KeptNumber) → All HasBytes (map number_message numbers)
-numbers_have [] = All-nil HasBytes
-numbers_have (k ∷ numbers) =
-    All-cons HasBytes (number_message k) (map number_message numbers) tt (numbers_have numbers)
+numbers_have : (numbers : List KeptNumber) → All NumberFits numbers → All HasBytes (map number_message numbers)
+numbers_have numbers h = All-map HasBytes number_message numbers h
 
 settled : (kind : Kind) (past : Past) (x : Settling) → IsOfBytes kind past → AreSentInRange x.before →
     All AreInRange x.own → IsEndedOfBytes kind (settle_event past x)
 unfolding settle_event ended_by own_frames
 settled kind past x h before own =
     let frames = own_frames x.before past.numbers past.progress x.own in
+    let fit =
+    own_numbers_fit (no_own_frames x.before past.numbers past.progress) x.own
+    (record { all = h.numbers; new = All-nil NumberFits }) own in
     record {
       after = record {
         primary = h.primary;
         secondary = h.secondary;
         copy = h.copy;
+        numbers = fit.all;
+        told = h.told;
+        copied = h.copied;
         link =
             cond_both past.is_reported past.to_secondary
             (past.to_secondary ++ map number_message frames.new_numbers) (All HasBytes) (λ e. h.link)
             (λ e. All-append HasBytes past.to_secondary (map number_message frames.new_numbers) h.link
-            (numbers_have frames.new_numbers));
+            (numbers_have frames.new_numbers fit.new));
       };
       out = settling_builds_lem (scene_of past frames x) frames.progress
           (own_in_range (no_own_frames x.before past.numbers past.progress) x.own before own);
@@ -220,7 +234,15 @@ primary_turns a past line made h g =
       own = segments made.output;
       restarts = [];
       is_turn = true;
-    }) (record { primary = g.node; secondary = h.secondary; copy = h.copy; link = h.link }) h.primary.items g.own)
+    }) (record {
+      primary = g.node;
+      secondary = h.secondary;
+      copy = h.copy;
+      numbers = h.numbers;
+      told = h.told;
+      copied = h.copied;
+      link = h.link;
+    }) h.primary.items g.own)
 
 survivor_turns : (a : Start) (past : Past) (line : Line) (made : TurnMade) → IsOfBytes a.kind past →
     IsTurnOfBytes a.kind made → IsStepOfBytes a (turn_survivor past line made)
@@ -236,14 +258,30 @@ survivor_turns a past line made h g =
       own = segments made.output;
       restarts = [];
       is_turn = true;
-    }) (record { primary = h.primary; secondary = g.node; copy = h.copy; link = h.link }) h.secondary.items g.own)
+    }) (record {
+      primary = h.primary;
+      secondary = g.node;
+      copy = h.copy;
+      numbers = h.numbers;
+      told = h.told;
+      copied = h.copied;
+      link = h.link;
+    }) h.secondary.items g.own)
 
 secondary_turns : (a : Start) (past : Past) (line : Line) (made : TurnMade) → IsOfBytes a.kind past →
     IsTurnOfBytes a.kind made → IsStepOfBytes a (turn_secondary past line made)
 unfolding turn_secondary
 secondary_turns a past line made h g =
     silent a _ line (Made made.index 0) None
-    (record { primary = h.primary; secondary = g.node; copy = h.copy; link = h.link })
+    (record {
+      primary = h.primary;
+      secondary = g.node;
+      copy = h.copy;
+      numbers = h.numbers;
+      told = h.told;
+      copied = h.copied;
+      link = h.link;
+    })
 
 -- CLIENT FRAMES
 pub more_waiting : (kind : Kind) (node : NodeRun) (inbox : List Waiting) (w : Waiting) → AreBytes w.frame →
@@ -263,12 +301,18 @@ accepted kind true past w bytes h = record {
   primary = h.primary;
   secondary = more_waiting kind past.secondary past.secondary_inbox w bytes h.secondary;
   copy = h.copy;
+  numbers = h.numbers;
+  told = h.told;
+  copied = h.copied;
   link = h.link;
 }
 accepted kind false past w bytes h = record {
   primary = more_waiting kind past.primary past.primary_inbox w bytes h.primary;
   secondary = h.secondary;
   copy = h.copy;
+  numbers = h.numbers;
+  told = h.told;
+  copied = h.copied;
   link =
       cond_both past.is_reported past.to_secondary (past.to_secondary ++ frame_message w ∷ []) (All HasBytes)
       (λ e. h.link) (λ e. All-push HasBytes past.to_secondary (frame_message w) h.link bytes);
@@ -294,7 +338,15 @@ secondary_told a past m ms e h = by m (All-head HasBytes m ms link) (All-tail Ha
         IsStepOfBytes a (silently (record past { to_secondary = ms }) ToSecondary answer (Some n))
     same rest answer n =
         silent a (record past { to_secondary = ms }) ToSecondary answer (Some n)
-        (record { primary = h.primary; secondary = h.secondary; copy = h.copy; link = rest })
+        (record {
+          primary = h.primary;
+          secondary = h.secondary;
+          copy = h.copy;
+          numbers = h.numbers;
+          told = h.told;
+          copied = h.copied;
+          link = rest;
+        })
 
     by : (n : Message) → HasBytes n → All HasBytes ms →
         IsStepOfBytes a (secondary_hears (record past { to_secondary = ms }) n)
@@ -312,11 +364,22 @@ secondary_told a past m ms e h = by m (All-head HasBytes m ms link) (All-tail Ha
                 (All (λ (x : Waiting). AreBytes x.frame)) (λ f. h.secondary.waiting) (λ f. more.waiting);
           };
           copy = h.copy;
+          numbers = h.numbers;
+          told = h.told;
+          copied = h.copied;
           link = rest;
         })
     by (Number t client number) bytes rest =
         silent a (hear_number (record past { to_secondary = ms }) t client number) ToSecondary _ _
-        (record { primary = h.primary; secondary = h.secondary; copy = h.copy; link = rest })
+        (record {
+          primary = h.primary;
+          secondary = h.secondary;
+          copy = h.copy;
+          numbers = h.numbers;
+          told = kept_fit t client number true past.secondary_numbers bytes h.told;
+          copied = h.copied;
+          link = rest;
+        })
     by (End n) bytes rest = record {
       after = record {
         primary = h.primary;
@@ -327,6 +390,9 @@ secondary_told a past m ms e h = by m (All-head HasBytes m ms link) (All-tail Ha
           waiting = h.copy.waiting;
         };
         copy = h.copy;
+        numbers = h.numbers;
+        told = h.copied;
+        copied = h.copied;
         link = rest;
       };
       shaped = All-nil (IsShaped None);
@@ -352,7 +418,15 @@ primary_told a past m ms h = by m
     idle : (n : Message) → IsStepOfBytes a (silently (record past { to_primary = ms }) ToPrimary Nothing None)
     idle n =
         silent a (record past { to_primary = ms }) ToPrimary Nothing None
-        (record { primary = h.primary; secondary = h.secondary; copy = h.copy; link = h.link })
+        (record {
+          primary = h.primary;
+          secondary = h.secondary;
+          copy = h.copy;
+          numbers = h.numbers;
+          told = h.told;
+          copied = h.copied;
+          link = h.link;
+        })
 
     by : (n : Message) → IsStepOfBytes a (primary_hears (record past { to_primary = ms }) n)
     by (Known t client number) =
@@ -361,7 +435,15 @@ primary_told a past m ms h = by m
         (settled a.kind
         (record past { to_primary = ms; numbers = learn_number past.numbers t client number })
         (no_frames past.primary.items)
-        (record { primary = h.primary; secondary = h.secondary; copy = h.copy; link = h.link }) h.primary.items
+        (record {
+          primary = h.primary;
+          secondary = h.secondary;
+          copy = h.copy;
+          numbers = learnt_fit t client number past.numbers h.numbers;
+          told = h.told;
+          copied = h.copied;
+          link = h.link;
+        }) h.primary.items
         (All-nil AreInRange))
     by (Sent frame) =
         with_cause a ToPrimary [] (Some (Sent frame)) (HeardBack 13 (past.sent_heard + 1))
@@ -373,7 +455,15 @@ primary_told a past m ms h = by m
         }) (record (no_frames past.primary.items) {
           restarts = restarts_in past.known_items (segments (frame ∷ []));
         })
-        (record { primary = h.primary; secondary = h.secondary; copy = h.copy; link = h.link }) h.primary.items
+        (record {
+          primary = h.primary;
+          secondary = h.secondary;
+          copy = h.copy;
+          numbers = h.numbers;
+          told = h.told;
+          copied = h.copied;
+          link = h.link;
+        }) h.primary.items
         (All-nil AreInRange))
     by (Ack n) =
         let items = as_before past.primary.items (commit ∷ []) refl h.primary.items in
@@ -388,6 +478,9 @@ primary_told a past m ms h = by m
           };
           secondary = h.secondary;
           copy = h.copy;
+          numbers = all_learnt_fit past.numbers h.numbers;
+          told = h.told;
+          copied = h.copied;
           link = h.link;
         }) items (All-nil AreInRange))
     by (Frame index seen trim frame) = idle (Frame index seen trim frame)
@@ -404,9 +497,19 @@ primary_told a past m ms h = by m
 
 -- THE REPORT
 secondary_goes_on : (a : Start) (past : Past) → IsOfBytes a.kind past → IsStepOfBytes a (secondary_survives past)
-unfolding secondary_survives
+unfolding secondary_survives survive
 secondary_goes_on a past h = record {
-  after = record { primary = h.primary; secondary = h.secondary; copy = h.copy; link = All-nil HasBytes };
+  after = record {
+    primary = h.primary;
+    secondary = h.secondary;
+    copy = h.copy;
+    numbers =
+        survived_fit past.secondary.items (record { numbers = past.secondary_numbers; progress = []; out = [] })
+        (order past.secondary.items) h.secondary.items h.told;
+    told = h.told;
+    copied = h.copied;
+    link = All-nil HasBytes;
+  };
   shaped =
       all_shaped None (survive past.secondary.items past.secondary_numbers (order past.secondary.items)).out
       (surviving_builds_lem past.secondary.items past.secondary_numbers h.secondary.items);
@@ -418,7 +521,15 @@ unfolding primary_survives
 primary_goes_on a past h =
     with_cause a Report [] None Reported (primary_survives past)
     (settled a.kind (lose_links past) (no_frames past.primary.items)
-    (record { primary = h.primary; secondary = h.secondary; copy = h.copy; link = All-nil HasBytes }) h.primary.items
+    (record {
+      primary = h.primary;
+      secondary = h.secondary;
+      copy = h.copy;
+      numbers = h.numbers;
+      told = h.told;
+      copied = h.copied;
+      link = All-nil HasBytes;
+    }) h.primary.items
     (All-nil AreInRange))
 
 -- EVERY EVENT
@@ -448,19 +559,51 @@ bytes_last a regular stream = record {
   loses = λ past frame t e f h. silent a (passed_frame past) Client _ None (passed past h);
   secondary_hears = λ past m ms e f g h. secondary_told a past m ms e h;
   ignores = λ past m ms e f g running alone h. silent a (record past { to_primary = ms }) ToPrimary _ (Some m)
-      (record { primary = h.primary; secondary = h.secondary; copy = h.copy; link = h.link });
+      (record {
+        primary = h.primary;
+        secondary = h.secondary;
+        copy = h.copy;
+        numbers = h.numbers;
+        told = h.told;
+        copied = h.copied;
+        link = h.link;
+      });
   primary_hears = λ past m ms e f running alone h. primary_told a past m ms h;
   primary_stops = λ past h. silent a (record past { stop = primary_stop }) StopPrimary Zero None
-      (record { primary = h.primary; secondary = h.secondary; copy = h.copy; link = h.link });
+      (record {
+        primary = h.primary;
+        secondary = h.secondary;
+        copy = h.copy;
+        numbers = h.numbers;
+        told = h.told;
+        copied = h.copied;
+        link = h.link;
+      });
   secondary_stops = λ past h. silent a (record past { stop = secondary_stop }) StopSecondary Zero None
-      (record { primary = h.primary; secondary = h.secondary; copy = h.copy; link = h.link });
+      (record {
+        primary = h.primary;
+        secondary = h.secondary;
+        copy = h.copy;
+        numbers = h.numbers;
+        told = h.told;
+        copied = h.copied;
+        link = h.link;
+      });
   secondary_left = λ past e h. secondary_goes_on a past h;
   primary_left = λ past e h. primary_goes_on a past h;
   asks = λ past e f g h. record { after = captured a.kind past h; shaped = All-nil (IsShaped None) };
 }
   where
     passed : (past : Past) → IsOfBytes a.kind past → IsOfBytes a.kind (passed_frame past)
-    passed past h = record { primary = h.primary; secondary = h.secondary; copy = h.copy; link = h.link }
+    passed past h = record {
+      primary = h.primary;
+      secondary = h.secondary;
+      copy = h.copy;
+      numbers = h.numbers;
+      told = h.told;
+      copied = h.copied;
+      link = h.link;
+    }
 
 -- EVERY LOG
 each_shaped : (a : Start) → Cases a.kind a.stream (λ past x o. IsOfBytes a.kind past → IsStepOfBytes a o) →
@@ -475,18 +618,36 @@ each_shaped a cases past (x ∷ xs) h =
     All-cons (λ (s : Step). All (IsShaped (reply_due a s)) s.released) o.step
     (steps_from a.kind a.stream o.after xs) step.shaped (each_shaped a cases o.after xs step.after)
 
-shaped_from : (a : Start) → IsRegular a.kind → All AreBytes a.stream → IsOfBytes a.kind (first_past a) →
-    (schedule : List Line) → ShapePart a (pair_log a schedule)
-unfolding pair_log
-shaped_from a regular stream h schedule = each_shaped a (bytes_last a regular stream) (first_past a) schedule h
+-- a start's kind is regular, its stream is bytes, and both nodes hold bytes
+pub record StartsOfBytes (a : Start) : Type 0 where
+  pub regular : IsRegular a.kind
+  pub stream : All AreBytes a.stream
+  pub first : IsOfBytes a.kind (first_past a)
 
-pub shape_of_each_log : ShapeOfEachLog
-shape_of_each_log a schedule (boots kind stream state m n regular fits bytes are) =
+pub bytes_of_start : (a : Start) → IsStart a → StartsOfBytes a
+bytes_of_start a (boots kind stream state m n regular fits bytes are) =
     let node : IsNodeOfBytes kind (first_run (boot kind stream state m n)) [] = record {
       fits = fits;
       bytes = bytes;
       items = All-nil AreInRange;
       waiting = All-nil (λ (w : Waiting). AreBytes w.frame);
     } in
-    shaped_from (boot kind stream state m n) regular are
-    (record { primary = node; secondary = node; copy = node; link = All-nil HasBytes }) schedule
+    record {
+      regular = regular;
+      stream = are;
+      first = record {
+        primary = node;
+        secondary = node;
+        copy = node;
+        numbers = All-nil NumberFits;
+        told = All-nil NumberFits;
+        copied = All-nil NumberFits;
+        link = All-nil HasBytes;
+      };
+    }
+
+pub shape_of_each_log : ShapeOfEachLog
+unfolding pair_log
+shape_of_each_log a schedule start =
+    let h = bytes_of_start a start in
+    each_shaped a (bytes_last a h.regular h.stream) (first_past a) schedule h.first

@@ -1,3 +1,4 @@
 pub mod Lines
+pub mod Prompt
 pub mod Shapes
 pub mod Standing
