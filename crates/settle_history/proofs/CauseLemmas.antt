@@ -18,11 +18,12 @@ use Rattle.settle_table.specs.Kept.{KeptScene}
 use Rattle.settle_table.specs.Needs.{difference_in, differ_or, first_differ, first_need, line_differs, matched_at, need_of, restart_among, wait_of}
 use Rattle.settle_table.specs.Needs as table
 use Rattle.settle_table.specs.Table.{AreUntrimmed, progress_at}
+use Rattle.settle_table.specs.declared.causes.Need.{Need}
 use Rattle.settle_table.specs.declared.causes.Need.TheVariants.{Nothing}
 use Rattle.line_match.specs.Untrimmed.{IsUntrimmed}
 use Rattle.out_compare.specs.Comparing.{Comparing, need_after, scene_of, settlement_of}
 use Rattle.compare_laws.proofs.FindLemmas.{find-same}
-use Rattle.settle_history.specs.Laws.{SettlesByTheRules, cause_in, difference_said, need_said, scene_within}
+use Rattle.settle_history.specs.Laws.{SettlesByTheRules, cause_in, difference_said, need_among, need_said, restart_said, scene_within}
 use Rattle.settle_history.specs.Standing.{SameProgress, StandsWithin}
 use Rattle.settle_history.proofs.AlikeLemmas.{differs_alike, end_alike, end_low}
 use Rattle.settle_history.proofs.SettleLemmas.{HasLine, each_has_line, settlement_alike, settles_to}
@@ -93,6 +94,17 @@ waited_alike : (p q : ProgressTable) (ts : List Tuple) → SameProgress p q →
 waited_alike p q ts same = find-same (table.has_waited q) (rules.has_waited p)
     (λ t. ap (λ (r : Progress). r.age == longest_wait) (same t)) ts
 
+-- the table's words for a need are the rules'
+in_words : (d : Option Need) (restarts : List Tuple) (r w : Option Tuple) →
+    first_need d (restart_among restarts r) (wait_of w) ≡ need_among d (restart_said r restarts) w
+in_words (Some n) restarts r w = refl
+in_words None [] None None = refl
+in_words None [] None (Some t) = refl
+in_words None [] (Some r) None = refl
+in_words None [] (Some r) (Some t) = refl
+in_words None (u ∷ restarts) None w = refl
+in_words None (u ∷ restarts) (Some r) w = refl
+
 pub need_alike : (own : OwnFrames) (theirs : List Item) (heard : List Tuple) (is_alone is_turn : Bool)
     (x : Comparing) (p : ProgressTable) → AreUntrimmed x.mine (settlement_of x is_turn).progress →
     SameProgress p (settlement_of x is_turn).progress → StandsWithin own theirs heard is_alone x →
@@ -122,9 +134,11 @@ need_alike own theirs heard is_alone is_turn x p u same h =
     by true = refl
     by false =
         let first = first_alike own theirs heard is_alone is_turn x p q tuples (each_has_line x.mine) u same h in
-        λ i. first_need (first i)
+        (λ i. first_need (first i)
         (restart_among (h.restarts_are i) (find (λ (t : Tuple). list_any (same_tuple t) (h.restarts_are i)) tuples))
-        (wait_of (waited_alike p q tuples same i))
+        (wait_of (waited_alike p q tuples same i)))
+        ∙ in_words (difference_said scene p (find (is_different scene p) tuples)) scene.restarts
+        (rules.first_restart scene tuples) (rules.first_wait tuples p)
 
 -- the cause of a need
 pub cause_alike : (is_alone : Bool) (scene : Scene) (ts : List Tuple) (p : ProgressTable) →
@@ -135,14 +149,16 @@ cause_alike false scene ts p =
     by (first_difference scene ts p) scene.restarts (rules.first_restart scene ts) (rules.first_wait ts p)
   where
     by : (d : Option Tuple) (restarts : List Tuple) (r w : Option Tuple) →
-        cause_in (first_need (difference_said scene p d) (restart_among restarts r) (wait_of w))
+        cause_in (need_among (difference_said scene p d) (restart_said r restarts) w)
         ≡ (if is_some d then Some cause.Differ else (if not (is_empty restarts) then Some cause.Restart
         else (if is_some w then Some cause.Wait else None)))
     by (Some t) restarts r w = refl
-    by None [] r None = refl
-    by None [] r (Some t) = refl
+    by None [] None None = refl
+    by None [] None (Some t) = refl
+    by None [] (Some r) None = refl
+    by None [] (Some r) (Some t) = refl
     by None (u ∷ restarts) None w = refl
-    by None (u ∷ restarts) (Some t) w = refl
+    by None (u ∷ restarts) (Some r) w = refl
 
 -- THE END OF AN EVENT
 

@@ -22,7 +22,6 @@ use Rattle.settle_rules.specs.Progress.{Progress, ProgressTable, clear_ages, pro
 use Rattle.settle_rules.specs.Settle.{Scene, Settlement, settle, settle_or_rest}
 use Rattle.settle_rules.specs.Survive.{Survival}
 use Rattle.settle_rules.specs.Survive as rules
-use Rattle.settle_table.specs.Needs.{first_need, restart_among, wait_of}
 use Rattle.settle_table.specs.declared.causes.Need.{Need}
 use Rattle.settle_table.specs.declared.causes.Need.TheVariants.{Nothing, Differ, Restart, Wait}
 use Rattle.out_compare.specs.Comparing.{Comparing, nothing_compared, take_own, take_heard, learn, settlement_of, need_after, capture, acknowledge, leave_alone}
@@ -169,20 +168,31 @@ scene_within own theirs heard is_alone is_turn = record {
   restarts = own.restarts ++ heard;
 }
 
--- the first difference of the rules, as a need
+-- the first difference, and where it is matched up to
 abbrev pub difference_said : Scene → ProgressTable → Option Tuple → Option Need
 difference_said scene progress None = None
 difference_said scene progress (Some t) = Some (Differ t (matched_end_of scene progress t))
 
--- the need that the rules name, with its tuple: the first difference, and where it is matched up
--- to; the first restart, or the first of the event where no restarted tuple is in the table; the
--- first long wait
+-- a restart, by the first restarted tuple in table order; where none of them is in the table, by
+-- the first of the event
+abbrev pub restart_said : Option Tuple → List Tuple → Option Need
+restart_said found [] = None
+restart_said (Some t) (_ ∷ _) = Some (Restart t)
+restart_said None (u ∷ _) = Some (Restart u)
+
+-- a difference goes before a restart, and that before a long wait
+abbrev pub need_among : Option Need → Option Need → Option Tuple → Need
+need_among (Some difference) restart wait = difference
+need_among None (Some restart) wait = restart
+need_among None None (Some t) = Wait t
+need_among None None None = Nothing
+
+-- the need that the rules name, with its tuple; a node alone has none
 abbrev pub need_said : Bool → Scene → List Tuple → ProgressTable → Need
 need_said true scene tuples progress = Nothing
 need_said false scene tuples progress =
-    first_need (difference_said scene progress (first_difference scene tuples progress))
-    (restart_among scene.restarts (first_restart scene tuples))
-    (wait_of (first_wait tuples progress))
+    need_among (difference_said scene progress (first_difference scene tuples progress))
+    (restart_said (first_restart scene tuples) scene.restarts) (first_wait tuples progress)
 
 -- the cause that a need is
 abbrev pub cause_in : Need → Option Cause
