@@ -1,0 +1,4 @@
+pub mod Pair
+pub mod Events
+pub mod Steps
+pub mod Inside
