@@ -1,2 +1,3 @@
 pub mod PlanLemmas
-mod ImageLemmas
+pub mod ImageLemmas
+pub mod ReplayLemmas

@@ -1,2 +1,4 @@
 pub mod OneFile
 pub mod Image
+pub mod Replay
+pub mod Steps

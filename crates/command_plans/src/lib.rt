@@ -3,5 +3,7 @@
 
 mod image;
 mod one_file;
+mod replay;
 
 pub use image::write_image;
+pub use replay::run_pair;

@@ -1,0 +1,107 @@
+-- The files are created, the events written, and then memory and disk.
+use Rattle.std.proofs.Common.{◌++◌, ◌∙◌, List, ap, flat_map, subst}
+use Rattle.std.proofs.lemmas.Result.{err_from_is_err_and}
+use Rattle.file_steps.specs.Steps.{FailsToWrite, Step, Writes, creates}
+use Rattle.file_steps.specs.declared.fault.Fault.TheVariants.{NoMemory}
+use Rattle.file_steps.proofs.WriteLemmas.{write_fails_front, write_fails_then, write_no_memory, writes_then}
+use Rattle.state_wire.specs.Guest.{Meaning}
+use Rattle.pair_core.specs.Pair.{Pair, pair_of}
+use Rattle.replay_log.specs.declared.lines.Line.{Line}
+use Rattle.command_plans.specs.Replay.{after_lines, events, replay_files, replay_steps, state_steps, survivor, writes_of}
+use Rattle.command_plans.proofs.ReplayLemmas.{summary_same, survivor_same}
+use Rattle.command_plans.proofs.replay.run_pair.Goals as goal
+
+-- the parts of a replay
+abbrev made : List Step
+made = creates replay_files
+
+abbrev happened : Pair → List Line → List Step
+happened w lines = flat_map writes_of (events w lines)
+
+abbrev left : Pair → List Line → List Step
+left w lines = state_steps (survivor (after_lines w lines)).state
+
+pub returns-in_err-create_all-clause-fails : goal.returns-in_err-create_all-clause-fails
+unfolding replay_steps
+returns-in_err-create_all-clause-fails g c =
+    let w = pair_of g.G.Guest.meaning c.args.pair.now in
+    let lines = c.args.lines.now in
+    let out = c.args.out.now in
+    let s0 = g.S.Shelf.state c.args.shelf.now in
+    let s1 = g.S.Shelf.state c.create_all.new.shelf in
+    let p = err_from_is_err_and c.from_residual.result c.from_residual.ensures.1 in
+    rw (p.1, p.2) (write_fails_front out made (happened w lines ++ left w lines) s0 s1 c.in_err-create_all.field-0.0
+    c.in_err-create_all.ensures.fails)
+
+pub returns-in_err-counts-clause-fails : goal.returns-in_err-counts-clause-fails
+unfolding replay_steps
+returns-in_err-counts-clause-fails g c =
+    let w = pair_of g.G.Guest.meaning c.args.pair.now in
+    let lines = c.args.lines.now in
+    let out = c.args.out.now in
+    let s0 = g.S.Shelf.state c.args.shelf.now in
+    let s1 = g.S.Shelf.state c.create_all.new.shelf in
+    let s2 = g.S.Shelf.state c.run_lines.new.shelf in
+    let p = err_from_is_err_and c.from_residual-in_err-counts.result c.from_residual-in_err-counts.ensures.1 in
+    let fault = c.in_err-counts.field-0.0 in
+    rw (p.1, p.2) (write_fails_then out made (happened w lines ++ left w lines) s0 s1 s2 fault
+    c.in_ok-create_all.ensures.done
+    (write_fails_front out (happened w lines) (left w lines) s1 s2 fault c.in_err-counts.ensures.fails))
+
+pub returns-in_err-line-clause-fails : goal.returns-in_err-line-clause-fails
+unfolding replay_steps
+returns-in_err-line-clause-fails g c =
+    let w = pair_of g.G.Guest.meaning c.args.pair.now in
+    let lines = c.args.lines.now in
+    let out = c.args.out.now in
+    let s0 = g.S.Shelf.state c.args.shelf.now in
+    let s1 = g.S.Shelf.state c.create_all.new.shelf in
+    let s2 = g.S.Shelf.state c.run_lines.new.shelf in
+    let p = err_from_is_err_and c.from_residual-in_err-line.result c.from_residual-in_err-line.ensures.1 in
+    rw (p.1, p.2) (write_fails_then out made (happened w lines ++ left w lines) s0 s1 s2 NoMemory
+    c.in_ok-create_all.ensures.done
+    (write_fails_then out (happened w lines) (left w lines) s1 s2 s2 NoMemory c.in_ok-counts.ensures.done
+    (write_no_memory out (left w lines) s2)))
+
+pub returns-in_err-write_state-clause-fails : goal.returns-in_err-write_state-clause-fails
+unfolding replay_steps
+returns-in_err-write_state-clause-fails g c =
+    let w = pair_of g.G.Guest.meaning c.args.pair.now in
+    let lines = c.args.lines.now in
+    let out = c.args.out.now in
+    let s0 = g.S.Shelf.state c.args.shelf.now in
+    let s1 = g.S.Shelf.state c.create_all.new.shelf in
+    let s2 = g.S.Shelf.state c.run_lines.new.shelf in
+    let s3 = g.S.Shelf.state c.write_state.new.shelf in
+    let r = c.from_residual-in_err-write_state in
+    let p = err_from_is_err_and r.result r.ensures.1 in
+    let fault = c.in_err-write_state.field-0.0 in
+    let guest = ap g.G.Guest.meaning c.survivor.ensures
+    ∙ (survivor_same g.G.Guest.meaning c.run_lines.new.pair ∙ ap survivor c.in_ok-counts.ensures.after) in
+    rw (p.1, p.2) (write_fails_then out made (happened w lines ++ left w lines) s0 s1 s3 fault
+    c.in_ok-create_all.ensures.done
+    (write_fails_then out (happened w lines) (left w lines) s1 s2 s3 fault c.in_ok-counts.ensures.done
+    (subst (λ (m : Meaning). FailsToWrite out (state_steps m.state) s2 s3 fault) guest
+    c.in_err-write_state.ensures.fails)))
+
+pub returns-clause-line : goal.returns-clause-line
+returns-clause-line g c =
+    c.in_ok-line.ensures
+    ∙ summary_same (events (pair_of g.G.Guest.meaning c.args.pair.now) c.args.lines.now) c.in_ok-counts.counts
+    c.in_ok-counts.ensures.counts
+
+pub returns-clause-done : goal.returns-clause-done
+unfolding replay_steps
+returns-clause-done g c =
+    let w = pair_of g.G.Guest.meaning c.args.pair.now in
+    let lines = c.args.lines.now in
+    let out = c.args.out.now in
+    let s0 = g.S.Shelf.state c.args.shelf.now in
+    let s1 = g.S.Shelf.state c.create_all.new.shelf in
+    let s2 = g.S.Shelf.state c.run_lines.new.shelf in
+    let s3 = g.S.Shelf.state c.write_state.new.shelf in
+    let guest = ap g.G.Guest.meaning c.survivor.ensures
+    ∙ (survivor_same g.G.Guest.meaning c.run_lines.new.pair ∙ ap survivor c.in_ok-counts.ensures.after) in
+    writes_then out made (happened w lines ++ left w lines) s0 s1 s3 c.in_ok-create_all.ensures.done
+    (writes_then out (happened w lines) (left w lines) s1 s2 s3 c.in_ok-counts.ensures.done
+    (subst (λ (m : Meaning). Writes out (state_steps m.state) s2 s3) guest c.in_ok-write_state.ensures.done))
