@@ -1,0 +1,5 @@
+pub mod PartLemmas
+pub mod LineLemmas
+pub mod TrackerLemmas
+pub mod DueLemmas
+pub mod NumberLemmas
