@@ -1,0 +1,4 @@
+pub mod EachEvent
+pub mod KnownSteps
+pub mod KnownLemmas
+pub mod PauseLemmas
