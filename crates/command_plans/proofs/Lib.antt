@@ -1,3 +1,5 @@
 pub mod PlanLemmas
 pub mod ImageLemmas
 pub mod ReplayLemmas
+pub mod SpliceLemmas
+pub mod SoloLemmas

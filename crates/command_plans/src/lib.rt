@@ -4,6 +4,10 @@
 mod image;
 mod one_file;
 mod replay;
+mod solo;
+mod splice;
 
 pub use image::write_image;
 pub use replay::run_pair;
+pub use solo::{RunEnd, SoloRun, make_run, plan_solo};
+pub use splice::{FilePlan, plan_splice};

@@ -31,7 +31,7 @@ fn add_record(frame: &[u8], into: &mut Vec<u8>) -> Result<(), AllocError>
 }
 
 /// The frames, each after its length.
-fn stream(alloc: Global, frames: &Frames) -> Result<Vec<u8>, NoMemory>
+pub(crate) fn stream(alloc: Global, frames: &Frames) -> Result<Vec<u8>, NoMemory>
     ensures { IfOk result (λ text. text.items ≡ stream_of frames.now) }
 {
     let mut text = Vec::new(alloc);
