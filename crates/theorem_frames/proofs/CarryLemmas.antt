@@ -72,7 +72,7 @@ pub start_is : (own start : ℕ) (s : TcpFields) → own < 2 ^ 32 → start < OF
 start_is own start s small near e =
     ap (λ (n : ℕ). distance own n) e ∙ omega (arith, small, near)
 
-abbrev data_of : List ℕ → Bool → List Symbol
+abbrev pub data_of : List ℕ → Bool → List Symbol
 data_of bytes ends = map byte bytes ++ fin_if ends
 
 carries_data : (own start : ℕ) (s : TcpFields) (ends : Bool) (j : ℕ) (x : Symbol) → own < 2 ^ 32 →
@@ -232,12 +232,12 @@ data_carries b offset (y ∷ ys) ends j x small near e = by (cases_lt j (length 
         (omega (arith, length-map (y ∷ ys) byte, high))) ∙ e)
 
 -- A PART OF A LINE
-record IsData (xs : List Symbol) : Type 0 where
-  bytes : List ℕ
-  ends : Bool
-  data_is : xs ≡ data_of bytes ends
+pub record IsData (xs : List Symbol) : Type 0 where
+  pub bytes : List ℕ
+  pub ends : Bool
+  pub data_is : xs ≡ data_of bytes ends
 
-take_data : (n : ℕ) (bytes : List ℕ) (ends : Bool) → IsData (take n (data_of bytes ends))
+pub take_data : (n : ℕ) (bytes : List ℕ) (ends : Bool) → IsData (take n (data_of bytes ends))
 take_data zero bytes ends = record { bytes = []; ends = false; data_is = refl }
 take_data (suc n) [] true =
     record { bytes = []; ends = true; data_is = ap (λ (xs : List Symbol). fin ∷ xs) (take-nothing n) }
@@ -254,12 +254,12 @@ take_data (suc n) (b ∷ bytes) ends =
       data_is = ap (λ (xs : List Symbol). byte b ∷ xs) rest.data_is;
     }
 
-part_data : (n d : ℕ) (bytes : List ℕ) (ends : Bool) → IsData (take n (drop d (data_of bytes ends)))
+pub part_data : (n d : ℕ) (bytes : List ℕ) (ends : Bool) → IsData (take n (drop d (data_of bytes ends)))
 part_data n d bytes ends =
     subst (λ (xs : List Symbol). IsData (take n xs)) (sym (drop-payload d bytes ends))
     (take_data n (drop d bytes) (ends && nat_le d (length bytes)))
 
-no_syn_in : (bytes : List ℕ) (ends : Bool) → has_symbol syn (data_of bytes ends) ≡ false
+pub no_syn_in : (bytes : List ℕ) (ends : Bool) → has_symbol syn (data_of bytes ends) ≡ false
 no_syn_in [] true = refl
 no_syn_in [] false = refl
 no_syn_in (b ∷ bytes) ends = no_syn_in bytes ends

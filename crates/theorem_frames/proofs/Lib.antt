@@ -1,10 +1,10 @@
-mod BuildLemmas
-mod BytesLemmas
-mod CarryLemmas
-mod EachEvent
-mod GrowthLemmas
-mod LineLemmas
-mod PromptLemmas
-mod RangeLemmas
-mod ShapeLemmas
-mod ShownLemmas
+pub mod BuildLemmas
+pub mod BytesLemmas
+pub mod CarryLemmas
+pub mod EachEvent
+pub mod GrowthLemmas
+pub mod LineLemmas
+pub mod PromptLemmas
+pub mod RangeLemmas
+pub mod ShapeLemmas
+pub mod ShownLemmas

@@ -73,7 +73,7 @@ agreed_shows false b p is_turn tooks small sound =
     (All-nil (Shows out)))
     (λ e. All-nil (Shows out))
 
-found_fits : (p : KeptNumber → Bool) (numbers : List KeptNumber) → All NumberFits numbers →
+pub found_fits : (p : KeptNumber → Bool) (numbers : List KeptNumber) → All NumberFits numbers →
     number_or_zero (find p numbers) < 2 ^ 32
 found_fits p [] h = omega arith
 found_fits p (k ∷ numbers) h =
@@ -240,7 +240,7 @@ settle_shows scene progress h =
     (λ t e. refl)
 
 -- THE SURVIVOR
-found_any : (p : KeptNumber → Bool) (numbers : List KeptNumber) → is_some (find p numbers) ≡ list_any p numbers
+pub found_any : (p : KeptNumber → Bool) (numbers : List KeptNumber) → is_some (find p numbers) ≡ list_any p numbers
 found_any p [] = refl
 found_any p (k ∷ numbers) = by (p k) (found_any p numbers)
   where
@@ -249,7 +249,7 @@ found_any p (k ∷ numbers) = by (p k) (found_any p numbers)
     by true more = refl
     by false more = more
 
-found_stays : (p : KeptNumber → Bool) (numbers more : List KeptNumber) → is_some (find p numbers) ≡ true →
+pub found_stays : (p : KeptNumber → Bool) (numbers more : List KeptNumber) → is_some (find p numbers) ≡ true →
     find p (numbers ++ more) ≡ find p numbers
 found_stays p [] more h = absurd (true≢false (sym h))
 found_stays p (k ∷ numbers) more h = by (p k) h (found_stays p numbers more)
@@ -260,7 +260,7 @@ found_stays p (k ∷ numbers) more h = by (p k) h (found_stays p numbers more)
     by true e later = refl
     by false e later = later e
 
-found_last : (p : KeptNumber → Bool) (numbers : List KeptNumber) (k : KeptNumber) → p k ≡ true →
+pub found_last : (p : KeptNumber → Bool) (numbers : List KeptNumber) (k : KeptNumber) → p k ≡ true →
     is_some (find p (numbers ++ k ∷ [])) ≡ true
 found_last p [] k h = ap (λ (b : Bool). is_some (if b then Some k else None)) h
 found_last p (x ∷ numbers) k h = by (p x) (found_last p numbers k h)
@@ -271,7 +271,7 @@ found_last p (x ∷ numbers) k h = by (p x) (found_last p numbers k h)
     by false more = more
 
 -- a kept number stays the kept one
-kept_stays : (t : Tuple) (client : ℕ) (u : Tuple) (other number : ℕ) (numbers : List KeptNumber) →
+pub kept_stays : (t : Tuple) (client : ℕ) (u : Tuple) (other number : ℕ) (numbers : List KeptNumber) →
     is_some (kept_number t client numbers) ≡ true →
     kept_number t client (keep_number u other number true numbers) ≡ kept_number t client numbers
 kept_stays t client u other number numbers h =
@@ -280,7 +280,7 @@ kept_stays t client u other number numbers h =
     (λ (ks : List KeptNumber). kept_number t client ks ≡ kept_number t client numbers) (λ e. refl)
     (λ e. found_stays (is_number_of t client) numbers (k ∷ []) h)
 
-kept_there : (t : Tuple) (client number : ℕ) (numbers : List KeptNumber) →
+pub kept_there : (t : Tuple) (client number : ℕ) (numbers : List KeptNumber) →
     is_some (kept_number t client (keep_number t client number true numbers)) ≡ true
 kept_there t client number numbers =
     let k : KeptNumber = record { tuple = t; client = client; number = number; known = true } in

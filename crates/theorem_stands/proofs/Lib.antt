@@ -1,0 +1,5 @@
+pub mod KeptLemmas
+pub mod KindLemmas
+pub mod NumberedEvents
+pub mod NumberedLemmas
+pub mod PlainLemmas
