@@ -301,7 +301,7 @@ captured_fit x e can =
     (disk_fits np s.sectors 0 ((ns + 127) / 128) can.sizes (omega arith))
     (all_places_left np ns pages k start)))
     (held_fit x.inbox whole can.accepted room))
-    (lines_fit x.numbers x.lines.entries (fold keep k (pages ++ disk ++ held)) can.regular.plain can.within)
+    (lines_fit x.numbers x.lines.entries (fold keep k (pages ++ disk ++ held)) can.lines.regular.plain can.lines.within)
 
 pub captured_is_due : (kind : Kind) (x : Capture) (e : ℕ) → CanBeHeard x → IsOfKind kind x
     → AreDue kind e Nothing (messages_of x e ++ End e ∷ [])

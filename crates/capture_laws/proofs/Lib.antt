@@ -3,3 +3,4 @@ pub mod LineLemmas
 pub mod TrackerLemmas
 pub mod DueLemmas
 pub mod NumberLemmas
+pub mod RegularLemmas

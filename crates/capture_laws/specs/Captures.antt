@@ -62,6 +62,11 @@ pub record AreRegular (lines : Tracking) : Type 0 where
   pub distinct : AreDistinct (keys_of lines.entries)
   pub plain : ArePlain lines.entries
 
+-- and all of it
+pub record AreCapturable (lines : Tracking) : Type 0 where
+  pub regular : AreRegular lines
+  pub within : AreWithin lines.entries
+
 -- ---- what is asked of numbers
 
 -- a number is kept for the clients of current openings, and for no others
@@ -78,8 +83,7 @@ pub record CanBeHeard (x : Capture) : Type 0 where
   pub sizes : HaveSize 512 x.state.sectors
   pub accepted : AreAccepted x.inbox
   pub room : length x.inbox ≤ INBOX_ROOM
-  pub regular : AreRegular x.lines
-  pub within : AreWithin x.lines.entries
+  pub lines : AreCapturable x.lines
 
 -- the state is one of a guest of this kind
 pub record IsOfKind (kind : Kind) (x : Capture) : Type 0 where

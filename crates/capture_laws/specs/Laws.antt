@@ -1,7 +1,7 @@
 -- What a capture sends is kept as it was captured.
-use Rattle.std.specs.Prelude.{◌≡◌, ℕ, [], ◌∷◌, ◌++◌, fold, length}
+use Rattle.std.specs.Prelude.{◌≡◌, ℕ, List, [], ◌∷◌, ◌++◌, fold, length}
 use Rattle.inet_frame.specs.declared.tuple.Tuple.{Tuple}
-use Rattle.tcp_track.specs.Tracking.{committed}
+use Rattle.tcp_track.specs.Tracking.{Tracking, committed, nothing_tracked, taken, trimmed}
 use Rattle.seq_rewriter.specs.Kept.{number_of}
 use Rattle.state_wire.specs.Guest.{Kind, Meaning}
 use Rattle.checkpoint_capture.specs.Sizes.{HaveSize}
@@ -11,7 +11,7 @@ use Rattle.kept_checkpoint.specs.Kept.{kept_lines, load_kept}
 use Rattle.node_secondary.specs.Hearing.{hear_due}
 use Rattle.node_secondary.specs.Node.{Node}
 use Rattle.node_secondary.specs.declared.under_way.UnderWay.TheVariants.{Nothing, Heard}
-use Rattle.capture_laws.specs.Captures.{AreOfOpenings, AreRegular, CanBeHeard, Capture, IsOfKind, kept_of, messages_of}
+use Rattle.capture_laws.specs.Captures.{AreCapturable, AreOfOpenings, AreRegular, CanBeHeard, Capture, IsOfKind, kept_of, messages_of}
 use Rattle.capture_laws.specs.Ways.{AreDue, way}
 
 -- What is under way at a node after a message that is due follows from what was, and from nothing
@@ -56,3 +56,24 @@ KeepsTheNumbers =
     (x : Capture) (e : ℕ) → AreRegular x.lines → AreOfOpenings x.numbers x.lines →
     (t : Tuple) (client : ℕ) →
     number_of (kept_of x e).numbers t client ≡ number_of x.numbers t client
+
+-- What is asked of lines holds of none.
+abbrev pub BeginsCapturable : Type 0
+BeginsCapturable = AreCapturable nothing_tracked
+
+-- It goes on with each frame, each trim and each commit, and with a checkpoint that is put back.
+abbrev pub TakesCapturably : Type 0
+TakesCapturably =
+    (lines : Tracking) (frame : List ℕ) → AreCapturable lines → AreCapturable (taken lines frame)
+
+abbrev pub TrimsCapturably : Type 0
+TrimsCapturably =
+    (lines : Tracking) (t : Tuple) (client to : ℕ) → AreCapturable lines →
+    AreCapturable (trimmed lines t client to)
+
+abbrev pub CommitsCapturably : Type 0
+CommitsCapturably = (lines : Tracking) → AreCapturable lines → AreCapturable (committed lines)
+
+abbrev pub KeepsCapturably : Type 0
+KeepsCapturably =
+    (x : Capture) (e : ℕ) → AreCapturable x.lines → AreCapturable (kept_lines (kept_of x e))

@@ -1,7 +1,7 @@
 //! What one node captures is what the other keeps. The functions do nothing: their contracts are
 //! what is proved.
 
-ghost use Rattle.capture_laws.specs.Laws.{CapturedIsDue, GoesItsWay, HearsAWhole, KeepsTheInbox, KeepsTheLines, KeepsTheNumbers, SpellsAWhole};
+ghost use Rattle.capture_laws.specs.Laws.{BeginsCapturable, CapturedIsDue, CommitsCapturably, GoesItsWay, HearsAWhole, KeepsCapturably, KeepsTheInbox, KeepsTheLines, KeepsTheNumbers, SpellsAWhole, TakesCapturably, TrimsCapturably};
 
 /// From a secondary with nothing under way each message of a capture is due when it comes, whatever
 /// turns lie between, and before the End all of it was heard.
@@ -33,4 +33,14 @@ pub fn keeps_the_lines()
 #[tactic(auto, using(crate::proofs::NumberLemmas::keeps_the_numbers))]
 pub fn keeps_the_numbers()
     ensures { KeepsTheNumbers }
+{}
+
+/// What these laws ask of lines holds of an empty tracker, and goes on with each frame, trim and
+/// commit, and with a checkpoint that is put back.
+pub fn lines_go_on()
+    ensures begins { BeginsCapturable }
+    ensures takes { TakesCapturably }
+    ensures trims { TrimsCapturably }
+    ensures commits { CommitsCapturably }
+    ensures keeps { KeepsCapturably }
 {}
