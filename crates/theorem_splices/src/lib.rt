@@ -7,7 +7,9 @@
 #![tactic(auto)]
 
 mod known;
+mod numbers;
 mod pause;
 
 pub use known::secondary_is_known;
+pub use numbers::numbers_agree;
 pub use pause::pause_is_silent;
