@@ -4,3 +4,4 @@ pub mod TrackerLemmas
 pub mod DueLemmas
 pub mod NumberLemmas
 pub mod RegularLemmas
+pub mod TheoremLemmas

@@ -11,6 +11,10 @@ use Rattle.kept_checkpoint.specs.Kept.{kept_lines, load_kept}
 use Rattle.node_secondary.specs.Hearing.{hear_due}
 use Rattle.node_secondary.specs.Node.{Node}
 use Rattle.node_secondary.specs.declared.under_way.UnderWay.TheVariants.{Nothing, Heard}
+use Rattle.settle_rules.specs.Numbers.{KeptNumber}
+use Rattle.pair_theorem.specs.Checkpoint.{checkpoint_messages}
+use Rattle.pair_theorem.specs.Past.{Past}
+use Rattle.capture_laws.specs.Standing.{StandsForPast}
 use Rattle.capture_laws.specs.Captures.{AreCapturable, AreOfOpenings, AreRegular, CanBeHeard, Capture, IsOfKind, kept_of, messages_of}
 use Rattle.capture_laws.specs.Ways.{AreDue, way}
 
@@ -77,3 +81,9 @@ CommitsCapturably = (lines : Tracking) → AreCapturable lines → AreCapturable
 abbrev pub KeepsCapturably : Type 0
 KeepsCapturably =
     (x : Capture) (e : ℕ) → AreCapturable x.lines → AreCapturable (kept_lines (kept_of x e))
+
+-- The messages of a capture that stands for a past are those of the theorem.
+abbrev pub IsTheTheorems : Type 0
+IsTheTheorems =
+    (past : Past) (kept : List KeptNumber) (x : Capture) (e : ℕ) → StandsForPast past kept x →
+    messages_of x e ≡ checkpoint_messages past kept e

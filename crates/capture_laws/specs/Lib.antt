@@ -1,3 +1,4 @@
 pub mod Captures
 pub mod Ways
+pub mod Standing
 pub mod Laws

@@ -1,7 +1,7 @@
 //! What one node captures is what the other keeps. The functions do nothing: their contracts are
 //! what is proved.
 
-ghost use Rattle.capture_laws.specs.Laws.{BeginsCapturable, CapturedIsDue, CommitsCapturably, GoesItsWay, HearsAWhole, KeepsCapturably, KeepsTheInbox, KeepsTheLines, KeepsTheNumbers, SpellsAWhole, TakesCapturably, TrimsCapturably};
+ghost use Rattle.capture_laws.specs.Laws.{BeginsCapturable, CapturedIsDue, CommitsCapturably, GoesItsWay, HearsAWhole, IsTheTheorems, KeepsCapturably, KeepsTheInbox, KeepsTheLines, KeepsTheNumbers, SpellsAWhole, TakesCapturably, TrimsCapturably};
 
 /// From a secondary with nothing under way each message of a capture is due when it comes, whatever
 /// turns lie between, and before the End all of it was heard.
@@ -43,4 +43,10 @@ pub fn lines_go_on()
     ensures trims { TrimsCapturably }
     ensures commits { CommitsCapturably }
     ensures keeps { KeepsCapturably }
+{}
+
+/// The messages of a capture that stands for a past of the pair are the theorem's own list.
+#[tactic(auto, using(crate::proofs::TheoremLemmas::is_the_theorems))]
+pub fn is_the_theorems()
+    ensures { IsTheTheorems }
 {}
