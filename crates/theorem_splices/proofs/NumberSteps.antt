@@ -54,7 +54,8 @@ new_of_plain before [] h = tt
 new_of_plain before (k ∷ numbers) h = (
   sym (has_plain k.tuple k.client before) ∙ h.0,
   new_of_plain (before ++ k ∷ []) numbers
-      (subst (λ (xs : List KeptNumber). AreNewAfter xs (plain_numbers numbers)) (sym (plain-append before (k ∷ []))) h.1),
+      (subst (λ (xs : List KeptNumber). AreNewAfter xs (plain_numbers numbers)) (sym (plain-append before (k ∷ [])))
+      h.1),
 )
 
 pub new_alike : (xs ys : List KeptNumber) → plain_numbers xs ≡ plain_numbers ys → AreNewAfter [] ys → AreNewAfter [] xs
@@ -106,7 +107,8 @@ new_filtered p before fewer (k ∷ xs) among h =
 pub new_thin : (items : List Item) (xs : List KeptNumber) → AreNewAfter [] xs → AreNewAfter [] (thin items xs)
 unfolding thin
 new_thin items xs h =
-    new_filtered (λ (k : KeptNumber). is_of_client (line k.tuple items).opening k.client) [] [] xs (λ t client e. refl) h
+    new_filtered (λ (k : KeptNumber). is_of_client (line k.tuple items).opening k.client) [] [] xs
+    (λ t client e. refl) h
 
 -- NUMBERS ON THE LINK
 pub told_numbers : (new : List KeptNumber) → numbers_on (map number_message new) ≡ plain_numbers new
