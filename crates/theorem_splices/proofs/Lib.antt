@@ -1,4 +1,3 @@
-pub mod EachEvent
 pub mod KnownSteps
 pub mod KnownLemmas
 pub mod NumberSteps

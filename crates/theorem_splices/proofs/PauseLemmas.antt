@@ -15,7 +15,7 @@ use Rattle.pair_theorem.proofs.MessageCases.{heard_back_case, heard_case}
 use Rattle.theorem_runs.proofs.Checkpoints.{not_awaiting}
 use Rattle.theorem_runs.proofs.Lone.{lone_links}
 use Rattle.theorem_runs.proofs.Settled.{ack_settled, known_settled, left_settled, primary_settled, sent_settled, survivor_settled}
-use Rattle.theorem_splices.proofs.EachEvent.{each_event}
+use Rattle.theorem_frames.proofs.EachEvent.{each_event}
 use Rattle.theorem_splices.specs.Pause.{IsSilentAfter, IsSilentEvent, PauseIsSilent}
 
 -- an event of a history is silent
