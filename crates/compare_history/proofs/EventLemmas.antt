@@ -18,7 +18,8 @@ use Rattle.out_compare.specs.Comparing.{Comparing, take_own, take_heard, learn, 
 use Rattle.out_compare.specs.Comparing as comparer
 use Rattle.out_compare.specs.Look.{look, looked}
 use Rattle.pair_theorem.specs.Checkpoint.{capture}
-use Rattle.pair_theorem.specs.ClientFrames.{Look, look_with, trim_items, trims_by}
+use Rattle.pair_theorem.specs.ClientFrames.{trim_items, trims_by}
+use Rattle.settle_rules.specs.Look.{Look, look_with}
 use Rattle.pair_theorem.specs.Events.{accept_by, ack_ended, ended_by, known_ended, look_at, number_message, primary_ended, raise_count, primary_survives, restarts_in, secondary_survives, sent_ended, settle_event, survivor_ended, acknowledge, lose_links}
 use Rattle.pair_theorem.specs.GuestTurns.{TurnMade, TurnNumbers, add_turn, turn_from, turn_if, turn_with, turn_without}
 use Rattle.pair_theorem.specs.Past.{NodeRun, Past, is_primary_stop, releasing_items}
@@ -201,12 +202,12 @@ secondary_survives_alone past lines numbers h same =
 -- A CLIENT'S FRAME
 
 seen_alike : (s : TcpFields) (p : Progress) (shown current : Option Opening) →
-    (look_with s p shown current).seen ≡ shown
+    (look_with s p.edge shown current).seen ≡ shown
 seen_alike s p None current = refl
 seen_alike s p (Some o) current = refl
 
 trim_alike : (s : TcpFields) (p : Progress) (shown current : Option Opening) →
-    (look_with s p shown current).trim ≡ trim_said s p.edge shown current
+    (look_with s p.edge shown current).trim ≡ trim_said s p.edge shown current
 trim_alike s p None current = refl
 trim_alike s p (Some o) current = refl
 

@@ -17,21 +17,21 @@ use Rattle.tcp_track.proofs.OrderLemmas.{keeps_the_order}
 use Rattle.tcp_track.proofs.StandingLemmas.{keeps_each_line, opening_of_line}
 use Rattle.tcp_track.proofs.SymbolLemmas.{line_fits}
 use Rattle.out_compare.specs.Comparing.{Comparing, nothing_compared, take_own, take_heard, learn, settle, capture, acknowledge, leave_alone}
-use Rattle.out_compare.specs.Look.{look, look_with, looked}
+use Rattle.out_compare.specs.Look.{look, trimmed_look, looked}
 use Rattle.compare_laws.specs.Calls.{CompareCall, sends, hears, learns, settles, looks, captures, acknowledges, remains, compare_after, compare_calls, comparing_of, frames_sent, trim_in, own_call, own_calls, own_items, heard_call, heard_calls, heard_items, has_acknowledgement}
 use Rattle.compare_laws.specs.Laws.{KeepsOwnLines, TakesEachFrame, KeepsOwnOrder, GoesOn, KnowsWhatWasHeard, HearsEachFrame, KnowsACopy}
 
 -- THE OWN LINES
 
 look_step : (mine theirs : Tracking) (s : TcpFields) (edge : ℕ) (shown : Option Opening) →
-    (look_with mine theirs s edge shown).mine ≡ fold call_after mine (trim_in (client_tuple_of s)
-    (look_with mine theirs s edge shown).seen (look_with mine theirs s edge shown).trim)
+    (trimmed_look mine theirs s edge shown).mine ≡ fold call_after mine (trim_in (client_tuple_of s)
+    (trimmed_look mine theirs s edge shown).seen (trimmed_look mine theirs s edge shown).trim)
 look_step mine theirs s edge None = refl
 look_step mine theirs s edge (Some shown) = refl
 
 look_hears : (mine theirs : Tracking) (s : TcpFields) (edge : ℕ) (shown : Option Opening) →
-    (look_with mine theirs s edge shown).theirs ≡ fold call_after theirs (trim_in (client_tuple_of s)
-    (look_with mine theirs s edge shown).seen (look_with mine theirs s edge shown).trim)
+    (trimmed_look mine theirs s edge shown).theirs ≡ fold call_after theirs (trim_in (client_tuple_of s)
+    (trimmed_look mine theirs s edge shown).seen (trimmed_look mine theirs s edge shown).trim)
 look_hears mine theirs s edge None = refl
 look_hears mine theirs s edge (Some shown) = refl
 

@@ -22,7 +22,7 @@ use Rattle.settle_table.specs.Kept.{tuples_of}
 use Rattle.settle_table.specs.Table.{progress_at, set_progress}
 use Rattle.settle_table.proofs.TableLemmas.{progress_at-set_other, progress_at-set_same}
 use Rattle.out_compare.specs.Comparing.{Comparing, take_own, take_heard, learn, settle, capture, acknowledge}
-use Rattle.out_compare.specs.Look.{look, look_with}
+use Rattle.out_compare.specs.Look.{look, trimmed_look}
 use Rattle.out_compare.specs.Surviving.{Surviving, add_tuple, survive, survive_found, survive_tuple, survive_with}
 use Rattle.compare_laws.specs.Calls.{CompareCall, sends, hears, learns, settles, looks, captures, acknowledges, remains, compare_after}
 use Rattle.compare_laws.specs.Starts.{Start, at_new, at_survivor, TableCall, puts, does, start_of, table_after, table_made}
@@ -100,7 +100,7 @@ distinct_after x (settles is_turn) d = d
 distinct_after x (looks s) d = by _
   where
     by : (o : Option Opening) →
-        IsDistinct (tuples_of (look_with x.mine x.theirs s (progress_at x.progress (client_tuple_of s)).edge o).mine)
+        IsDistinct (tuples_of (trimmed_look x.mine x.theirs s (progress_at x.progress (client_tuple_of s)).edge o).mine)
     by None = d
     by (Some shown) = distinct_trimmed x.mine (client_tuple_of s) shown.client _ d
 distinct_after x captures d = d

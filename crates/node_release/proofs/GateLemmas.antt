@@ -4,7 +4,7 @@ use Rattle.inet_frame.specs.Fields.{TcpFields}
 use Rattle.tcp_track.specs.Tracking.{Tracking}
 use Rattle.tcp_track.specs.declared.openings.Opening.{Opening}
 use Rattle.out_compare.specs.Comparing.{Comparing}
-use Rattle.out_compare.specs.Look.{look, look_with}
+use Rattle.out_compare.specs.Look.{look, trimmed_look}
 use Rattle.settle_table.specs.Table.{progress_at}
 use Rattle.inet_frame.specs.Counted.{client_tuple_of}
 use Rattle.shared_definitions.specs.Bytes.{AreBytes}
@@ -15,7 +15,7 @@ use Rattle.frame_mirror.proofs.AcceptLemmas.{kept_is_accepted_as_it_is}
 use Rattle.node_release.specs.Gated.{IsClean, seen_by, trim_by}
 
 by_shown : (mine theirs : Tracking) (s : TcpFields) (edge : ℕ) (shown : Option Opening) →
-    (look_with mine theirs s edge shown).seen ≡ None → (look_with mine theirs s edge shown).trim ≡ 0
+    (trimmed_look mine theirs s edge shown).seen ≡ None → (trimmed_look mine theirs s edge shown).trim ≡ 0
 by_shown mine theirs s edge None e = refl
 by_shown mine theirs s edge (Some o) e = absurd cc
 

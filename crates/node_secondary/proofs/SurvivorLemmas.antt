@@ -21,7 +21,7 @@ use Rattle.frame_mirror.specs.declared.ring.Waiting.{Waiting}
 use Rattle.colo_wire.specs.declared.answers.Gate.TheVariants as gate
 use Rattle.settle_table.specs.Table.{progress_at}
 use Rattle.out_compare.specs.Comparing.{Comparing, take_own}
-use Rattle.out_compare.specs.Look.{look, look_with}
+use Rattle.out_compare.specs.Look.{look, trimmed_look}
 use Rattle.out_compare.specs.Noting.{number_with, opening_made}
 use Rattle.out_compare.specs.Surviving.{Surviving, add_tuple, survive, survive_found, survive_tuple, survive_with}
 use Rattle.node_release.specs.Gated.{Gated, gated, looked_by, refused, seen_by, taken_by, trim_by}
@@ -92,8 +92,8 @@ looked_lines x s =
     let p = progress_at x.progress (client_tuple_of s) in by p.edge p.shown
   where
     by : (edge : ℕ) (shown : Option Opening) →
-        (look_with x.mine x.theirs s edge shown).mine ≡ fold call_after x.mine
-        (trims_with (look_with x.mine x.theirs s edge shown).seen (look_with x.mine x.theirs s edge shown).trim
+        (trimmed_look x.mine x.theirs s edge shown).mine ≡ fold call_after x.mine
+        (trims_with (trimmed_look x.mine x.theirs s edge shown).seen (trimmed_look x.mine x.theirs s edge shown).trim
         (Some s))
     by edge None = refl
     by edge (Some o) = refl

@@ -12,7 +12,8 @@ ghost use Rattle.seq_rewriter.specs.Kept.{is_current};
 ghost use Rattle.line_release.specs.Prefix.{Begins};
 ghost use Rattle.settle_rules.specs.Release.{released_frame};
 ghost use Rattle.out_compare.specs.Comparing.{nothing_compared, take_own, take_heard, learn, is_kept, settlement_of, need_after, settle, capture, acknowledge};
-ghost use Rattle.out_compare.specs.Look.{look, looked, trim_of};
+ghost use Rattle.out_compare.specs.Look.{look, looked};
+ghost use Rattle.settle_rules.specs.Look.{trim_of};
 ghost use Rattle.out_compare.specs.Noting.{new_number};
 ghost use Rattle.out_compare.specs.Held.{comparing, IsInOrder};
 

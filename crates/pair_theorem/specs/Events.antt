@@ -14,6 +14,7 @@ use Rattle.tcp_track.specs.Lines.{Item, sent, commit, line, order}
 use Rattle.tcp_track.specs.Restarts.{is_restart}
 use Rattle.tcp_track.specs.Stands.{segments}
 use Rattle.settle_rules.specs.Causes.{cause_of}
+use Rattle.settle_rules.specs.Look.{Look, look_with}
 use Rattle.settle_rules.specs.Numbers.{KeptNumber, keep_number, kept_number, learn_number, learn_all}
 use Rattle.settle_rules.specs.OwnFrames.{OwnFrames, own_frames}
 use Rattle.settle_rules.specs.Progress.{progress_of, clear_ages}
@@ -27,7 +28,7 @@ use Rattle.frame_mirror.specs.declared.ingress.Entry.TheVariants as entry
 use Rattle.frame_mirror.specs.Accepted.{entry_of}
 use Rattle.frame_mirror.specs.declared.ring.Waiting.{Waiting}
 use Rattle.frame_mirror.specs.declared.ring.TheConstants.{INBOX_ROOM}
-use Rattle.pair_theorem.specs.ClientFrames.{Look, look_with, trims_by}
+use Rattle.pair_theorem.specs.ClientFrames.{trims_by}
 use Rattle.state_wire.specs.Guest.{Kind}
 use Rattle.pair_theorem.specs.GuestTurns.{TurnNumbers, TurnMade, turn_from}
 use Rattle.replay_log.specs.declared.lines.Line.{Line}
@@ -181,7 +182,7 @@ unfolding line
 look_at past None = record { seen = None; trim = 0 }
 look_at past (Some s) =
     let p = progress_of (client_tuple_of s) past.progress in
-    look_with s p p.shown (line (client_tuple_of s) (releasing_items past)).opening
+    look_with s p.edge p.shown (line (client_tuple_of s) (releasing_items past)).opening
 
 abbrev pub passed_frame : Past → Past
 passed_frame past = record past { next = past.next + 1 }

@@ -7,6 +7,7 @@ use Rattle.inet_frame.specs.Counted.{client_tuple_of, counted, tuple_of}
 use Rattle.inet_frame.specs.Fields.{TcpFields}
 use Rattle.inet_frame.specs.Flags.{has_ack}
 use Rattle.inet_frame.specs.declared.tuple.Tuple.{Tuple}
+use Rattle.tcp_track.specs.Laws.{took_after}
 use Rattle.tcp_track.specs.Lines.{Item, commit, line, segment_of, sent, sent_of, trim}
 use Rattle.tcp_track.specs.Offsets.{distance}
 use Rattle.tcp_track.specs.Stands.{is_of_client, opening_of, segments}
@@ -16,12 +17,13 @@ use Rattle.tcp_track.specs.declared.openings.Incarnation.{Incarnation}
 use Rattle.tcp_track.specs.declared.openings.Opening.{Opening}
 use Rattle.tcp_track.proofs.RestartLemmas.{answers_what}
 use Rattle.tcp_track.proofs.StandingLemmas.{opening_of_line}
+use Rattle.settle_rules.specs.Look.{trim_of}
 use Rattle.settle_rules.specs.Numbers.{KeptNumber, learn_all, new_number, thin}
-use Rattle.settle_rules.specs.OwnFrames.{OwnFrames, note_took, own_after, own_frames, progress_with, restarts_of, took_after}
+use Rattle.settle_rules.specs.OwnFrames.{OwnFrames, note_took, own_after, own_frames, progress_with, restarts_of}
 use Rattle.settle_rules.specs.Progress.{Progress, progress_of, put_progress}
 use Rattle.settle_table.specs.Table.{progress_at}
 use Rattle.out_compare.specs.Comparing.{Comparing, take_own, take_heard, learn, capture, acknowledge}
-use Rattle.out_compare.specs.Look.{look, look_with, trim_of}
+use Rattle.out_compare.specs.Look.{look, trimmed_look}
 use Rattle.out_compare.specs.Noting.{note_number, note_progress, note_unknown}
 use Rattle.out_compare.proofs.OrderLemmas.{acknowledged_untrimmed, own_untrimmed, trim_untrimmed}
 use Rattle.compare_laws.proofs.NumberLemmas.{all_keys, all_known, learns_keys}
@@ -244,7 +246,7 @@ trim_low s edge shown current = by (has_ack s.flags && (nat_le 1 (distance shown
     by false e = omega arith
 
 looks_with : (b : Books) (x : Comparing) (s : TcpFields) (shown : Option Opening) → StandsFor b x →
-    let now = look_with x.mine x.theirs s (progress_at x.progress (client_tuple_of s)).edge shown in
+    let now = trimmed_look x.mine x.theirs s (progress_at x.progress (client_tuple_of s)).edge shown in
     StandsFor (record b {
       mine = b.mine ++ trims_shown s now.seen now.trim;
       theirs = b.theirs ++ trims_shown s now.seen now.trim;
@@ -281,12 +283,12 @@ looks_with b x s (Some shown) h =
     }
 
 seen_with : (x : Comparing) (s : TcpFields) (edge : ℕ) (shown : Option Opening) →
-    (look_with x.mine x.theirs s edge shown).seen ≡ shown
+    (trimmed_look x.mine x.theirs s edge shown).seen ≡ shown
 seen_with x s edge None = refl
 seen_with x s edge (Some shown) = refl
 
 trim_with : (x : Comparing) (s : TcpFields) (edge : ℕ) (shown : Option Opening) →
-    (look_with x.mine x.theirs s edge shown).trim ≡ trim_said s edge shown (current_at x.mine (client_tuple_of s))
+    (trimmed_look x.mine x.theirs s edge shown).trim ≡ trim_said s edge shown (current_at x.mine (client_tuple_of s))
 trim_with x s edge None = refl
 trim_with x s edge (Some shown) = refl
 

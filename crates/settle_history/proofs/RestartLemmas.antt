@@ -5,6 +5,7 @@ use Rattle.inet_frame.specs.Counted.{tuple_of}
 use Rattle.inet_frame.specs.Fields.{TcpFields}
 use Rattle.inet_frame.specs.Flags.{has_rst}
 use Rattle.inet_frame.specs.declared.tuple.Tuple.{Tuple}
+use Rattle.tcp_track.specs.Laws.{took_after}
 use Rattle.tcp_track.specs.Lines.{Item, sent, trim, commit, Line, no_line, after_segment, after_trim, line, line_after, line_with, opened_line, refused_line, trim_end}
 use Rattle.tcp_track.specs.Restarts.{Openings, is_known_client, is_restart, no_openings, openings, openings_after}
 use Rattle.tcp_track.specs.Segments.{is_refusal, opening_in, opens_anew, same_opening, same_tuple, Symbol, symbols_in, start_of, refused_in}
@@ -13,7 +14,7 @@ use Rattle.tcp_track.specs.Tracking.{span_in, span_of, what_of}
 use Rattle.tcp_track.specs.declared.answers.What.TheVariants.{Ignored, Opened, Restarted, Reset, Refused}
 use Rattle.tcp_track.specs.declared.openings.Opening.{Opening}
 use Rattle.tcp_track.proofs.SymbolLemmas.{rst_opens_not}
-use Rattle.settle_rules.specs.OwnFrames.{restarts_of, took_after}
+use Rattle.settle_rules.specs.OwnFrames.{restarts_of}
 use Rattle.settle_history.specs.Laws.{restarts_heard}
 
 -- THE OPENING OF A LINE

@@ -6,6 +6,7 @@ use Rattle.colo_base.specs.declared.fault.Cause.TheVariants as cause
 use Rattle.inet_frame.specs.Counted.{client_tuple_of, counted, tuple_of}
 use Rattle.inet_frame.specs.Fields.{TcpFields}
 use Rattle.inet_frame.specs.declared.tuple.Tuple.{Tuple}
+use Rattle.tcp_track.specs.Laws.{took_after}
 use Rattle.tcp_track.specs.Lines.{Item, Line, commit, line, order, sent, trim}
 use Rattle.tcp_track.specs.Restarts.{is_restart}
 use Rattle.tcp_track.specs.Segments.{Symbol}
@@ -14,10 +15,11 @@ use Rattle.tcp_track.specs.Tracking.{Tracking, took_of}
 use Rattle.tcp_track.specs.declared.answers.Took.{Took}
 use Rattle.tcp_track.specs.declared.openings.Opening.{Opening}
 use Rattle.seq_rewriter.specs.Kept.{KeptNumbers}
+use Rattle.settle_rules.specs.Look.{trim_of}
 use Rattle.settle_rules.specs.Causes.{cause_of, first_difference, first_restart, first_wait, matched_end_of}
 use Rattle.settle_rules.specs.Matching.{BothLines}
 use Rattle.settle_rules.specs.Numbers.{KeptNumber, learn_all, learn_number, new_number, thin}
-use Rattle.settle_rules.specs.OwnFrames.{OwnFrames, own_after, own_frames, took_after}
+use Rattle.settle_rules.specs.OwnFrames.{OwnFrames, own_after, own_frames}
 use Rattle.settle_rules.specs.Progress.{Progress, ProgressTable, clear_ages, progress_of}
 use Rattle.settle_rules.specs.Settle.{Scene, Settlement, settle, settle_or_rest}
 use Rattle.settle_rules.specs.Survive.{Survival}
@@ -26,7 +28,7 @@ use Rattle.settle_table.specs.declared.causes.Need.{Need}
 use Rattle.settle_table.specs.declared.causes.Need.TheVariants.{Nothing, Differ, Restart, Wait}
 use Rattle.out_compare.specs.Comparing.{Comparing, nothing_compared, take_own, take_heard, learn, settlement_of, need_after, capture, acknowledge, leave_alone}
 use Rattle.out_compare.specs.Comparing as comparer
-use Rattle.out_compare.specs.Look.{look, looked, trim_of}
+use Rattle.out_compare.specs.Look.{look, looked}
 use Rattle.out_compare.specs.Noting.{opening_made}
 use Rattle.out_compare.specs.Noting as noting
 use Rattle.out_compare.specs.Surviving.{survive, survivor}

@@ -4,6 +4,7 @@ pub mod Pieces
 pub mod Release
 pub mod Matching
 pub mod OwnFrames
+pub mod Look
 pub mod Settle
 pub mod Causes
 pub mod Survive

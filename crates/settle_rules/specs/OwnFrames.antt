@@ -1,26 +1,15 @@
 -- What the frames of the releasing node's own guest are in one event: what each shows, restarts,
 -- numbers, what becomes due.
 use Rattle.std.specs.Prelude.{Bool, true, false, if◌then◌else◌, List, [], ◌∷◌, ◌++◌, fold}
-use Rattle.inet_frame.specs.Counted.{tuple_of}
 use Rattle.inet_frame.specs.Fields.{TcpFields}
 use Rattle.inet_frame.specs.declared.tuple.Tuple.{Tuple}
-use Rattle.tcp_track.specs.Lines.{Item, sent, line}
-use Rattle.tcp_track.specs.Segments.{is_near, is_refusal, may_open, symbols_in}
-use Rattle.tcp_track.specs.Restarts.{is_restart}
-use Rattle.tcp_track.specs.Tracking.{what_of}
+use Rattle.tcp_track.specs.Laws.{took_after}
+use Rattle.tcp_track.specs.Lines.{Item, sent}
 use Rattle.tcp_track.specs.declared.answers.Took.{Took}
 use Rattle.tcp_track.specs.declared.answers.What.{What}
 use Rattle.tcp_track.specs.declared.answers.What.TheVariants.{Ignored, Opened, Restarted, Symbols, Reset, Refused}
 use Rattle.settle_rules.specs.Numbers.{KeptNumber, new_number}
 use Rattle.settle_rules.specs.Progress.{Progress, ProgressTable, progress_of, put_progress}
-
--- what a segment is, sent after these items
-unfoldable pub took_after : List Item → TcpFields → Took
-unfolding line is_restart what_of is_refusal may_open symbols_in is_near
-took_after items s = record {
-  tuple = tuple_of s;
-  what = what_of (line (tuple_of s) items).opening (is_restart items s) s;
-}
 
 -- a segment that is ignored isn't noted among those of the event
 abbrev pub is_ignored : What → Bool

@@ -401,7 +401,7 @@ what-restart current known s = ap (λ w. if is_refusal s then Refused (refused_i
 pub answers_what : (calls : List Call) (s : TcpFields) (line_opening : (line (tuple_of s) (items_of calls)).opening
     ≡ current_at (fold call_after nothing_tracked calls) (tuple_of s)) →
     took_in (fold call_after nothing_tracked calls) (Some s) ≡ took_after (items_of calls) s
-unfolding what_in is_restart openings
+unfolding took_after what_in is_restart openings
 answers_what calls s line_opening = ap (λ (w : What). record { tuple = t; what = w }) what
   where
     t : Tuple

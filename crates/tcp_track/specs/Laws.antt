@@ -6,7 +6,7 @@ use Rattle.std.specs.Option.{option_map}
 use Rattle.inet_frame.specs.Counted.{counted, tuple_of}
 use Rattle.inet_frame.specs.Fields.{TcpFields}
 use Rattle.inet_frame.specs.declared.tuple.Tuple.{Tuple}
-use Rattle.tcp_track.specs.Segments.{Symbol}
+use Rattle.tcp_track.specs.Segments.{Symbol, is_near, is_refusal, may_open, symbols_in}
 use Rattle.tcp_track.specs.Stands.{opening_of, acked_in, Stands, ResetStands, RefusalStands}
 use Rattle.tcp_track.specs.Lines.{Item, sent, trim, commit, Line, no_line, line, sent_of, order}
 use Rattle.tcp_track.specs.LineFields.{LineFields, IsKept}
@@ -54,11 +54,11 @@ abbrev pub KeepsOrder : Type 0
 KeepsOrder = (calls : List Call) → keys_of (tracking_of calls).entries ≡ order (items_of calls)
 
 -- what a segment is after these items
-abbrev pub took_after : List Item → TcpFields → Took
+unfoldable pub took_after : List Item → TcpFields → Took
+unfolding line is_restart what_of is_refusal may_open symbols_in is_near
 took_after items s = record {
   tuple = tuple_of s;
-  what = what_of (line
-      (tuple_of s) items).opening (is_restart items s) s;
+  what = what_of (line (tuple_of s) items).opening (is_restart items s) s;
 }
 
 -- A frame that counts is answered as all that was sent before says.

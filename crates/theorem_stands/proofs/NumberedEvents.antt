@@ -15,6 +15,7 @@ use Rattle.tcp_track.specs.Segments.{same_tuple}
 use Rattle.tcp_track.specs.Stands.{is_of_client, segments}
 use Rattle.tcp_track.specs.declared.openings.Opening.{Opening}
 use Rattle.tcp_track.proofs.TupleLemmas.{same_tuple-eq}
+use Rattle.settle_rules.specs.Look.{look_with, trim_of}
 use Rattle.settle_rules.specs.Causes.{cause_of}
 use Rattle.settle_rules.specs.Numbers.{KeptNumber, learn_all, learn_number, thin}
 use Rattle.settle_rules.specs.OwnFrames.{no_own_frames, own_frames}
@@ -33,7 +34,7 @@ use Rattle.replay_log.specs.declared.records.Answer.TheVariants.{Made, HeardBack
 use Rattle.replay_log.specs.declared.records.Mark.{Mark}
 use Rattle.replay_log.specs.declared.records.Mark.TheVariants.{Acknowledged}
 use Rattle.pair_theorem.specs.Checkpoint.{capture}
-use Rattle.pair_theorem.specs.ClientFrames.{look_with, trim_items, trim_of, trims_by}
+use Rattle.pair_theorem.specs.ClientFrames.{trim_items, trims_by}
 use Rattle.pair_theorem.specs.Events.{Ended, Settling, accept_by, ack_ended, acknowledge, committed_items, ended_by, hear_frame, known_ended, look_at, lose_links, no_frames, numbers_of, outcome_with, primary_ended, primary_hears, primary_survives, raise_count, restarts_in, scene_of, secondary_hears, secondary_survives, sent_ended, settle_event, survivor_ended, turn_primary, turn_secondary, turn_survivor, waiting_of}
 use Rattle.pair_theorem.specs.GuestTurns.{TurnMade, TurnNumbers, add_turn, turn_from, turn_if, turn_with, turn_without}
 use Rattle.pair_theorem.specs.Messages.{waiting_in}
@@ -227,7 +228,7 @@ secondary_heard past m e h =
 
 -- A FRAME THAT IS TAKEN trims what was released
 trimmed_within : (s : TcpFields) (p : Progress) (shown : Opening) (current : Option Opening) →
-    trim_of s p shown current ≤ p.edge
+    trim_of s p.edge shown current ≤ p.edge
 trimmed_within s p shown current =
     let to = distance shown.own s.ack in
     cond_both (has_ack s.flags && (nat_le 1 to && (nat_le to p.edge && is_of_client current shown.client))) to 0
@@ -265,12 +266,12 @@ taken_numbered past frame h = by (tcp_in frame)
         p ≡ progress_of (client_tuple_of s) past.progress →
         (shown : Option Opening) →
         AreNumbered (releasing_items past
-        ++ trim_items (Some s) (look_with s p shown now).seen (look_with s p shown now).trim) past.numbers past.progress
+        ++ trim_items (Some s) (look_with s p.edge shown now).seen (look_with s p.edge shown now).trim) past.numbers past.progress
     seen s p now e None = same
     seen s p now e (Some shown) =
         trim_numbered (releasing_items past) past.numbers past.progress (client_tuple_of s) shown.client
-        (trim_of s p shown now)
-        (subst (λ (q : Progress). trim_of s p shown now ≤ q.edge) e (trimmed_within s p shown now)) h
+        (trim_of s p.edge shown now)
+        (subst (λ (q : Progress). trim_of s p.edge shown now ≤ q.edge) e (trimmed_within s p shown now)) h
 
     by : (o : Option TcpFields) →
         AreNumbered (releasing_items past ++ trim_items o (look_at past o).seen (look_at past o).trim) past.numbers

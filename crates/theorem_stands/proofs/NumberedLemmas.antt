@@ -10,6 +10,7 @@ use Rattle.inet_frame.specs.Counted.{tuple_of}
 use Rattle.inet_frame.specs.Fields.{TcpFields}
 use Rattle.inet_frame.specs.Flags.{has_rst, has_syn}
 use Rattle.inet_frame.specs.declared.tuple.Tuple.{Tuple}
+use Rattle.tcp_track.specs.Laws.{took_after}
 use Rattle.tcp_track.specs.Lines as lines
 use Rattle.tcp_track.specs.Lines.{Item, after_segment, after_trim, commit, has_ended, line, line_after, line_with, longer, no_line, opened_line, order, order_after, refused_line, sent, sent_of, trim, trim_end}
 use Rattle.tcp_track.specs.Restarts.{is_restart}
@@ -24,7 +25,7 @@ use Rattle.tcp_track.proofs.SymbolLemmas.{line_fits}
 use Rattle.tcp_track.proofs.TupleLemmas.{same_tuple-eq, same_tuple-refl}
 use Rattle.settle_rules.specs.Matching.{BothLines, agreed_ack_window, client_or_zero, has_one_client, matched_end}
 use Rattle.settle_rules.specs.Numbers.{KeptNumber, is_number_of, keep_number, kept_number, new_number, number_or_zero, thin}
-use Rattle.settle_rules.specs.OwnFrames.{OwnFrames, own_after, progress_with, took_after}
+use Rattle.settle_rules.specs.OwnFrames.{OwnFrames, own_after, progress_with}
 use Rattle.settle_rules.specs.Progress.{Progress, ProgressTable, clear_ages, no_progress, progress_of, put_progress}
 use Rattle.settle_rules.specs.Settle.{Scene, Settlement, both_lines, goes_out, grow_older, is_empty, is_restarted, new_edge, same_number, settle_one, settle_or_rest, settle_tuple, shown_after}
 use Rattle.settle_rules.specs.Survive.{Survival, lone_lines, survive, survive_line, survive_tuple, survivor_progress}
