@@ -5,5 +5,3 @@ pub mod Survivor
 pub mod Inside
 pub mod Steps
 pub mod Answers
-pub mod Calls
-pub mod Since

@@ -4,7 +4,6 @@
 
 mod due;
 mod hearing;
-pub mod law;
 mod node;
 mod parts;
 mod surviving;

@@ -7,7 +7,7 @@ use Rattle.colo_wire.specs.declared.messages.Message.{Message}
 use Rattle.colo_wire.specs.declared.messages.Message.TheVariants.{Frame, Number, Begin, State, Page, Disk, Write, Held, Line, Bytes, End, Known, Sent, Ack}
 use Rattle.kept_checkpoint.specs.Kept.{load_kept}
 use Rattle.node_parts.specs.Turns.{Turn}
-use Rattle.node_secondary.specs.Calls.{CountsAllTurns, after_call, came, count_turns, gave, heard, made, reported}
+use Rattle.secondary_laws.specs.Calls.{CountsAllTurns, after_call, came, count_turns, gave, heard, made, reported}
 use Rattle.node_secondary.specs.Hearing.{commit, hear, hear_due, is_due}
 use Rattle.node_secondary.specs.Node.{Node}
 use Rattle.node_secondary.specs.Steps.{followed, secondary_turn, settle_alone, survive_as}

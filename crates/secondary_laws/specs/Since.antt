@@ -25,7 +25,7 @@ use Rattle.colo_wire.specs.declared.messages.Message.TheVariants.{Frame, Number,
 use Rattle.kept_checkpoint.specs.Kept.{Kept, begin_kept, keep, kept_lines}
 use Rattle.kept_checkpoint.specs.Spelled.{spell}
 use Rattle.out_compare.specs.Noting.{opening_made}
-use Rattle.node_secondary.specs.Calls.{Call, after_call, after_calls, came, heard, made, reported}
+use Rattle.secondary_laws.specs.Calls.{Call, after_call, after_calls, came, heard, made, reported}
 use Rattle.node_secondary.specs.Hearing.{is_due, waiting}
 use Rattle.node_secondary.specs.Node.{Node}
 use Rattle.node_secondary.specs.Steps.{gated_for, lone_turn, taken_by}

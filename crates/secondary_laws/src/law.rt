@@ -1,8 +1,8 @@
 //! What holds of a secondary over all lists of calls, before the report of the primary's stop and
 //! after it. Each law is the contract of a call that does nothing.
 
-ghost use Rattle.node_secondary.specs.Calls.{CountsAllTurns, GoInOrder, ReleasesNothingBeforeTheReport};
-ghost use Rattle.node_secondary.specs.Since.{StandsSinceTheLastEnd};
+ghost use Rattle.secondary_laws.specs.Calls.{CountsAllTurns, GoInOrder, ReleasesNothingBeforeTheReport};
+ghost use Rattle.secondary_laws.specs.Since.{StandsSinceTheLastEnd};
 
 /// The guest counts all its turns, whatever is heard between them, and alone as before.
 #[tactic(auto, using(crate::proofs::RunLemmas::counts_all))]

@@ -27,16 +27,16 @@ use Rattle.kept_checkpoint.proofs.FittingLemmas.{spells_begun, spells_fitting}
 use Rattle.out_compare.specs.Comparing.{settle, take_own}
 use Rattle.out_compare.specs.Surviving.{survive}
 use Rattle.node_parts.specs.Turns.{Turn, left_frames, taken_frame, takes as takes_one}
-use Rattle.node_secondary.specs.Calls.{Call, after_call, after_calls, came, gave, heard, made, reported}
+use Rattle.secondary_laws.specs.Calls.{Call, after_call, after_calls, came, gave, heard, made, reported}
 use Rattle.node_secondary.specs.Hearing.{commit, hear, hear_due, hear_frame, hear_number, hear_part, is_due, is_due_at, is_due_begun, is_due_outside, is_due_within, keep_part, next_checkpoint, trim_for, trim_lines, waiting, with_frame}
 use Rattle.node_secondary.specs.Node.{Node}
-use Rattle.node_secondary.specs.Since.{IsOutside, Since, StandsSince, StandsSinceTheLastEnd, kept_of, loaded, openings_in, openings_of, since_call, since_calls, since_frame, since_heard, since_opened, since_start, spelled, trims_of, trims_with}
+use Rattle.secondary_laws.specs.Since.{IsOutside, Since, StandsSince, StandsSinceTheLastEnd, kept_of, loaded, openings_in, openings_of, since_call, since_calls, since_frame, since_heard, since_opened, since_start, spelled, trims_of, trims_with}
 use Rattle.node_secondary.specs.Steps.{followed, gated_for, lone_turn, secondary_turn, settle_alone, survive_as}
 use Rattle.node_secondary.specs.Survivor.{Second, Survivor, alone, guest_of, hears, inbox_of}
 use Rattle.node_secondary.specs.Turns.{guest_turn, make_turn}
 use Rattle.node_secondary.specs.declared.under_way.UnderWay.{UnderWay}
 use Rattle.node_secondary.specs.declared.under_way.UnderWay.TheVariants.{Nothing, Begun, Heard}
-use Rattle.node_secondary.proofs.SurvivorLemmas.{gated_lines, gated_numbers, own_lines, own_numbers, survived_numbers}
+use Rattle.secondary_laws.proofs.SurvivorLemmas.{gated_lines, gated_numbers, own_lines, own_numbers, survived_numbers}
 
 -- ---- what is kept of the checkpoint that is under way is what its messages spell
 

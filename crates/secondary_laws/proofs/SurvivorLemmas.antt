@@ -25,7 +25,7 @@ use Rattle.out_compare.specs.Look.{look, trimmed_look}
 use Rattle.out_compare.specs.Noting.{number_with, opening_made}
 use Rattle.out_compare.specs.Surviving.{Surviving, add_tuple, survive, survive_found, survive_tuple, survive_with}
 use Rattle.node_release.specs.Gated.{Gated, gated, looked_by, refused, seen_by, taken_by, trim_by}
-use Rattle.node_secondary.specs.Since.{openings_in, openings_of, opens, opens_found, trims_of, trims_with}
+use Rattle.secondary_laws.specs.Since.{openings_in, openings_of, opens, opens_found, trims_of, trims_with}
 
 -- ---- numbers
 

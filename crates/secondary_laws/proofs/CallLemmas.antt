@@ -5,7 +5,7 @@ use Rattle.std.proofs.lemmas.Bool.{false≢true}
 use Rattle.std.proofs.lemmas.List.{append-nil, append_assoc}
 use Rattle.colo_wire.specs.declared.messages.Message.{Message}
 use Rattle.colo_wire.specs.declared.messages.Message.TheVariants.{Frame, Number, Begin, State, Page, Disk, Write, Held, Line, Bytes, End, Known, Sent, Ack}
-use Rattle.node_secondary.specs.Calls.{Call, GoInOrder, ReleasesNothingBeforeTheReport, after_call, after_calls, all_of, answers_to, came, first_of, gave, gone_by, heard, made, put_by, reported}
+use Rattle.secondary_laws.specs.Calls.{Call, GoInOrder, ReleasesNothingBeforeTheReport, after_call, after_calls, all_of, answers_to, came, first_of, gave, gone_by, heard, made, put_by, reported}
 use Rattle.node_secondary.specs.Hearing.{commit, hear, hear_due, is_due, is_due_at, next_checkpoint}
 use Rattle.node_secondary.specs.Node.{Node}
 use Rattle.node_secondary.specs.Steps.{settle_alone, survive_as}

@@ -1,6 +1,0 @@
--- By cases of the calls.
-use Rattle.node_secondary.proofs.SinceLemmas.{stands_since}
-use Rattle.node_secondary.proofs.law.stands_since_the_last_end.Goals as goal
-
-pub returns : goal.returns
-returns c = stands_since

@@ -1,0 +1,4 @@
+pub mod CallLemmas
+pub mod RunLemmas
+pub mod SurvivorLemmas
+pub mod SinceLemmas

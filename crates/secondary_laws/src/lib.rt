@@ -1,0 +1,4 @@
+//! What holds of a secondary over all lists of its calls.
+#![tactic(auto)]
+
+pub mod law;
