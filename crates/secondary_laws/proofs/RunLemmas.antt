@@ -95,7 +95,8 @@ counts_all s (heard m ∷ calls) =
     (counts_all (after_call s (heard m)) calls) (heard_keeps s m)
 counts_all s (made t ∷ calls) =
     counts_all (secondary_turn s t).after calls
-    ∙ (ap (λ (x : ℕ). (x + count_turns calls) % 2 ^ 64) (turn_counts s t) ∙ more (guest_of s).turned (count_turns calls))
+    ∙ (ap (λ (x : ℕ). (x + count_turns calls) % 2 ^ 64) (turn_counts s t)
+    ∙ more (guest_of s).turned (count_turns calls))
 counts_all s (reported ∷ calls) =
     counts_on (guest_of s) (guest_of (after_call s reported)) (count_turns calls) _
     (counts_all (after_call s reported) calls) (reported_keeps s)

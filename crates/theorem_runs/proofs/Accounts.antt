@@ -73,10 +73,13 @@ primary_takes : (a : Start) (steps : List Step) (past : Past) (w : Waiting) (s :
 unfolding accept_by
 primary_takes a steps past w s r named running lone h = record {
   primary = λ e. one_more a steps past s w.index (λ i. IsTrue (contains_index i (primary_order past)))
-      (λ i. IsTrue (contains_index i (took_indices past.primary ++ inbox_indices (past.primary_inbox ++ w ∷ [])))) named
-      (λ i g. more_among i (primary_order past) (took_indices past.primary ++ inbox_indices (past.primary_inbox ++ w ∷ []))
+      (λ i. IsTrue (contains_index i (took_indices past.primary ++ inbox_indices (past.primary_inbox ++ w ∷ []))))
+      named
+      (λ i g. more_among i (primary_order past)
+      (took_indices past.primary ++ inbox_indices (past.primary_inbox ++ w ∷ []))
       (w.index ∷ []) (end_of_inbox (took_indices past.primary) past.primary_inbox w) g)
-      (last_among w.index (primary_order past) (took_indices past.primary ++ inbox_indices (past.primary_inbox ++ w ∷ []))
+      (last_among w.index (primary_order past)
+      (took_indices past.primary ++ inbox_indices (past.primary_inbox ++ w ∷ []))
       (end_of_inbox (took_indices past.primary) past.primary_inbox w))
       (h.primary (ap (λ (b : Bool). b && past.is_reported) running));
   secondary = by_secondary past.is_reported refl;
@@ -108,7 +111,8 @@ primary_takes a steps past w s r named running lone h = record {
         (λ i g. still_or_was a steps past s (secondary_all past) (all_of false) i r
         (λ k. is_still a (steps ++ s ∷ []) (all_of false) i
         (more_among i (secondary_all past) (all_of false) (w.index ∷ []) longer k)) g)
-        (is_still a (steps ++ s ∷ []) (all_of false) w.index (last_among w.index (secondary_all past) (all_of false) longer))
+        (is_still a (steps ++ s ∷ []) (all_of false) w.index
+        (last_among w.index (secondary_all past) (all_of false) longer))
         (h.secondary e)
 
     copy_of : Bool → List ℕ
@@ -206,7 +210,8 @@ frame_heard a steps past index w ms s true r same link named i h =
     full_now : is_full_for index (steps ++ s ∷ []) ≡ true
     full_now =
         full-push index steps s
-        ∙ or_right (is_full_for index steps) (contains_index index (cons_option (full_with s.delivered s.entry.answer) []))
+        ∙ or_right (is_full_for index steps)
+        (contains_index index (cons_option (full_with s.delivered s.entry.answer) []))
         (ap (λ (o : Option ℕ). contains_index index (cons_option o [])) named ∙ among_itself index)
 
     by : IsTrue (contains_index i later) ⊎ (index ≡ i) → IsTrue (is_or_was a (steps ++ s ∷ []) later i)
@@ -414,8 +419,8 @@ lost_accounts a steps past after s r none line stopped releases running sec inbo
       (secondary_all after) i)) is) (sym (none_accepted steps s none))
       (all_weaken (λ i. IsTrue (is_or_was a steps (secondary_all past) i))
       (λ i. IsTrue (is_or_was a (steps ++ s ∷ []) (secondary_all after) i)) (accepted_indices steps)
-      (λ i g. still_or_was a steps past s (secondary_all past) (secondary_all after) i r (λ k. moved i (among_three i took
-      waits (frames_on past.to_secondary) k)) g) (h.secondary running));
+      (λ i g. still_or_was a steps past s (secondary_all past) (secondary_all after) i r
+      (λ k. moved i (among_three i took waits (frames_on past.to_secondary) k)) g) (h.secondary running));
   copy = λ e. absurd (true≢false (sym e ∙ ap has_end link));
 }
   where
@@ -452,8 +457,8 @@ Account a steps past = AccountsFor a steps past
 passed_accounts : (a : Start) (steps : List Step) (past : Past) (s : Step) → Reached Fits a steps past
     → accepted_in s.entry.answer ≡ None → AccountsFor a steps past → AccountsFor a (steps ++ s ∷ []) (passed_frame past)
 passed_accounts a steps past s r none h =
-    left_accounts a steps past (passed_frame past) s r none (same_leaves past (passed_frame past) refl refl refl refl refl
-    refl) h
+    left_accounts a steps past (passed_frame past) s r none
+    (same_leaves past (passed_frame past) refl refl refl refl refl refl) h
 
 pub primary_not_secondary : (stop : Stop) → is_primary_stop stop ≡ true → is_secondary_stop stop ≡ false
 primary_not_secondary no_stop e = refl
@@ -604,7 +609,8 @@ account_cases a = record {
       (same_leaves past past refl refl refl refl refl refl) h);
 }
 
-pub each_accounted : (a : Start) (steps : List Step) (past : Past) → Reached Fits a steps past → AccountsFor a steps past
+pub each_accounted : (a : Start) (steps : List Step) (past : Past) → Reached Fits a steps past
+    → AccountsFor a steps past
 each_accounted a =
     each_history Fits a (Account a) (record { primary = λ e. tt; secondary = λ e. tt; copy = λ e. tt })
     (account_cases a)

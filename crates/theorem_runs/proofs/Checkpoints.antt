@@ -207,7 +207,8 @@ accept_links : (b : Bool) (past : Past) (w : Waiting) → OneCheckpoint past
     → OneCheckpoint (accept_by b past w (trims_by w))
 unfolding accept_by
 accept_links true past w h =
-    same_links past (accept_by true past w (trims_by w)) (record { awaits = refl; captures = refl; copy = refl }) refl refl h
+    same_links past (accept_by true past w (trims_by w)) (record { awaits = refl; captures = refl; copy = refl })
+    refl refl h
 accept_links false past w h = by past.is_reported refl
   where
     after : List Message → Past
@@ -299,9 +300,11 @@ secondary_links past m ms h =
     let p : Past = record past { to_secondary = ms } in
     heard_case (λ o. OneCheckpoint o.after) p m
     (λ index seen trim frame is. by_beside m (Frame index seen trim frame) is tt h
-    (λ one. same_links p (hear_frame p (waiting_in index seen trim frame)) (record { awaits = refl; captures = refl; copy = refl }) refl refl one))
+    (λ one. same_links p (hear_frame p (waiting_in index seen trim frame))
+    (record { awaits = refl; captures = refl; copy = refl }) refl refl one))
     (λ t client number is. by_beside m (Number t client number) is tt h
-    (λ one. more_up p (hear_number p t client number) _ (record { awaits = refl; captures = refl; copy = refl }) refl refl (tt, tt) one))
+    (λ one. more_up p (hear_number p t client number) _ (record { awaits = refl; captures = refl; copy = refl })
+    refl refl (tt, tt) one))
     (λ n is. by_end n is h)
     (λ apart. by_apart apart h)
   where
@@ -474,7 +477,8 @@ turned_secondary : (past : Past) (d : ℕ) (i : Bool) (b n : ℕ) (made : TurnMa
     → OneCheckpoint (turn_secondary past (Secondary d i b n) made).after
 unfolding turn_secondary
 turned_secondary past d i b n made h =
-    more_up past (turn_secondary past (Secondary d i b n) made).after (map Sent (counted_frames made.output)) (record { awaits = refl; captures = refl; copy = refl }) refl refl (sent_replies made.output) h
+    more_up past (turn_secondary past (Secondary d i b n) made).after (map Sent (counted_frames made.output))
+    (record { awaits = refl; captures = refl; copy = refl }) refl refl (sent_replies made.output) h
 
 survivor_reported : (past : Past) → secondary_releases past ≡ true → past.is_reported ≡ true
 survivor_reported past e = (and_parts (is_primary_stop past.stop) past.is_reported e).1

@@ -111,7 +111,8 @@ says_back past m ms h =
     (λ out ns ps new. says_told base ns ps new now)
     (λ out ns ps new why alone. says_captured (told_past base ns ps new) (says_told base ns ps new now)))
     (λ n is. let base = acknowledge p in
-    let now : AreSaid base = record { primary = says_commit past.primary h.primary; secondary = h.secondary; copy = h.copy } in
+    let now : AreSaid base =
+    record { primary = says_commit past.primary h.primary; secondary = h.secondary; copy = h.copy } in
     ack_settled (λ step after. AreSaid after) p n (λ out ns ps new. says_told base ns ps new now)
     (λ out ns ps new why alone. says_captured (told_past base ns ps new) (says_told base ns ps new now)))
     (λ foreign. same_said past p refl refl refl h)

@@ -61,7 +61,8 @@ not_reported : (past : Past) → (past.is_reported ≡ true → is_stopped past.
 not_reported past h p s = by past.is_reported h
   where
     by : (b : Bool) → (b ≡ true → is_stopped past.stop ≡ true) → b ≡ false
-    by true g = absurd (true≢false (sym (g refl) ∙ or_from (is_primary_stop past.stop) (is_secondary_stop past.stop) p s))
+    by true g =
+        absurd (true≢false (sym (g refl) ∙ or_from (is_primary_stop past.stop) (is_secondary_stop past.stop) p s))
     by false g = refl
 
 -- a secondary that may make a turn of its own has heard of no report

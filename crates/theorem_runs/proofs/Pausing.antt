@@ -1,5 +1,5 @@
--- While a checkpoint is awaited the primary is at its capture, but for trims: every event keeps it, where at most one node
--- stops.
+-- While a checkpoint is awaited the primary is at its capture, but for trims: every event keeps it, where at most one
+-- node stops.
 use Rattle.std.proofs.Common.{◌≡◌, ◌+◌, ◌&&◌, not, Bool, true, false, List, refl, sym, ap, ◌∙◌, true≢false}
 use Rattle.std.proofs.lemmas.Bool.{and_parts}
 use Rattle.tcp_track.specs.Lines.{sent_of}
@@ -47,15 +47,18 @@ accepted_pauses : (b : Bool) (past : Past) (w : Waiting) → (past.awaits_ack �
 unfolding accept_by
 accepted_pauses true past w h = same_pauses past (accept_by true past w (trims_by w)) refl refl refl refl refl refl h
 accepted_pauses false past w h =
-    same_pauses past (accept_by false past w (trims_by w)) refl refl refl (sent_of-trims past.primary.items w) refl refl h
+    same_pauses past (accept_by false past w (trims_by w)) refl refl refl (sent_of-trims past.primary.items w)
+    refl refl h
 
 heard_pauses : (past : Past) (m : Message) → (past.awaits_ack ≡ true → IsPaused past)
     → (secondary_hears past m).after.awaits_ack ≡ true → IsPaused (secondary_hears past m).after
 unfolding hear_frame
 heard_pauses past m h =
     heard_case (λ o. o.after.awaits_ack ≡ true → IsPaused o.after) past m
-    (λ index seen trim frame is e. (record { turns = (h e).turns; run = (h e).run; said = (h e).said; numbers = (h e).numbers }))
-    (λ t client number is e. (record { turns = (h e).turns; run = (h e).run; said = (h e).said; numbers = (h e).numbers }))
+    (λ index seen trim frame is e.
+    (record { turns = (h e).turns; run = (h e).run; said = (h e).said; numbers = (h e).numbers }))
+    (λ t client number is e.
+    (record { turns = (h e).turns; run = (h e).run; said = (h e).said; numbers = (h e).numbers }))
     (λ n is e. (record { turns = (h e).turns; run = (h e).run; said = (h e).said; numbers = (h e).numbers }))
     (λ apart. h)
 

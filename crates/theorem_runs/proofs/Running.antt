@@ -178,7 +178,8 @@ same_run : (a : Start) (log : List Record) (node after : NodeRun) → after.turn
 same_run a log node after t r h = record {
   told = subst (λ (ts : List Taken). AreTurnsTold log ts) (sym t) h.told;
   accepted = subst (λ (ts : List Taken). AreTurnsAccepted a ts) (sym t) h.accepted;
-  run = r ∙ (h.run ∙ ap (λ (ts : List Taken). run_turns a.kind a.stream a.run (map (turn_with (seen_in log)) ts)) (sym t));
+  run = r ∙ (h.run
+      ∙ ap (λ (ts : List Taken). run_turns a.kind a.stream a.run (map (turn_with (seen_in log)) ts)) (sym t));
 }
 
 same_runs : (a : Start) (log : List Record) (past after : Past) → after.primary ≡ past.primary
@@ -359,7 +360,8 @@ run_cases F a plain = record {
   accepts =
       λ past frame kept t e f steps r fits h. runs_on a steps _ past _
       (λ g. accepted_runs a _ (is_primary_stop past.stop) past _ g) h;
-  is_full = λ past frame kept t e f steps r fits h. runs_on a steps _ past _ (λ g. same_runs a _ past _ refl refl refl g) h;
+  is_full = λ past frame kept t e f steps r fits h.
+      runs_on a steps _ past _ (λ g. same_runs a _ past _ refl refl refl g) h;
   answers = λ past frame b t e steps r fits h. runs_on a steps _ past _ (λ g. same_runs a _ past _ refl refl refl g) h;
   drops = λ past frame why t e steps r fits h. runs_on a steps _ past _ (λ g. same_runs a _ past _ refl refl refl g) h;
   loses = λ past frame t e f steps r fits h. runs_on a steps _ past _ (λ g. same_runs a _ past _ refl refl refl g) h;

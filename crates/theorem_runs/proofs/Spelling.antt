@@ -206,7 +206,10 @@ copied_spells copy e z sizes pages sectors =
     let paged : GuestState = record start { pages = s.pages } in
     fold-append spell start (memory ++ held) rows
     ∙ (spells_none rows (all_flat_map IsQuiet (row_messages copy.run.items copy.numbers) (order copy.run.items)
-    (λ t. (λ y. refl, all_map IsQuiet Bytes (pieces_of bytes_together (row_bytes (line t copy.run.items))) (λ b y. refl))))
+    (λ t. (
+      λ y. refl,
+      all_map IsQuiet Bytes (pieces_of bytes_together (row_bytes (line t copy.run.items))) (λ b y. refl),
+    )))
     (fold spell start (memory ++ held))
     ∙ (fold-append spell start memory held
     ∙ (spells_none held (all_map IsQuiet held_message copy.inbox (λ w y. refl)) (fold spell start memory)

@@ -59,7 +59,8 @@ made_state a log node (w ∷ inbox) takes n next regular bytes told h = by (take
   where
     by : (b : Bool) → IsState a.kind (turn_if b a.kind node w inbox n).run.run.state
     by true =
-        turned_state a.kind node (guest_turn n (Some (raise_waiting w (sent_of node.items)))) (taken_turn n (Some w.index))
+        turned_state a.kind node (guest_turn n (Some (raise_waiting w (sent_of node.items))))
+        (taken_turn n (Some w.index))
         regular (given_bytes a log next w (sent_of node.items) bytes told.0) h
     by false = turned_state a.kind node (guest_turn n None) (taken_turn n None) regular tt h
 
@@ -161,7 +162,8 @@ state_cases F a plain regular = record {
       (λ out ns ps new why alone. captured_states a.kind (told_past base ns ps new)
       (told_states a.kind base ns ps new now));
   accepts = λ past frame kept t e f steps r fits h. accepted_states a.kind (is_primary_stop past.stop) past _ h;
-  is_full = λ past frame kept t e f steps r fits h. (record { primary = h.primary; secondary = h.secondary; copy = h.copy });
+  is_full = λ past frame kept t e f steps r fits h.
+      (record { primary = h.primary; secondary = h.secondary; copy = h.copy });
   answers = λ past frame b t e steps r fits h. (record { primary = h.primary; secondary = h.secondary; copy = h.copy });
   drops = λ past frame why t e steps r fits h. (record { primary = h.primary; secondary = h.secondary; copy = h.copy });
   loses = λ past frame t e f steps r fits h. (record { primary = h.primary; secondary = h.secondary; copy = h.copy });

@@ -1,5 +1,5 @@
--- What the secondary was told ends with a whole checkpoint where it hears an End, and so it is then in the state that all
--- it was told spells.
+-- What the secondary was told ends with a whole checkpoint where it hears an End, and so it is then in the state that
+-- all it was told spells.
 use Rattle.std.proofs.Common.{◌≡◌, ℕ, ◌+◌, ◌&&◌, ◌||◌, not, Bool, true, false, List, [], ◌∷◌, ◌++◌, append-nil, append_assoc, fold, length, map, Option, None, Some, refl, sym, ap, subst, ◌∙◌, arith, length-append, unwrap_or, true≢false}
 use Rattle.std.specs.Prelude.{if◌then◌else◌}
 use Rattle.std.proofs.Math.Bool.{or-false}
@@ -117,7 +117,8 @@ accepted_tells : (steps : List Step) (b : Bool) (past : Past) (w : Waiting) (s :
     → told_with s.entry.line s.delivered ≡ [] → Tells steps past
     → Tells (steps ++ s ∷ []) (accept_by b past w (trims_by w))
 unfolding accept_by
-accepted_tells steps true past w s none h = same_tells steps past (accept_by true past w (trims_by w)) s none refl refl refl h
+accepted_tells steps true past w s none h =
+    same_tells steps past (accept_by true past w (trims_by w)) s none refl refl refl h
 accepted_tells steps false past w s none h =
     quiet_tells steps past (accept_by false past w (trims_by w)) s none (by past.is_reported) refl refl h
   where
@@ -232,15 +233,16 @@ tell_cases : (F : Past → Line → Type 0) (a : Start) → Cases a.kind a.strea
 unfolding secondary_survives
 tell_cases F a = record {
   idle =
-      λ past x e f steps r fits h. same_tells steps past past (step_with x Nothing [] None []) (idle_told x) refl refl refl
-      h;
+      λ past x e f steps r fits h.
+      same_tells steps past past (step_with x Nothing [] None []) (idle_told x) refl refl refl h;
   primary_turn =
       λ past d i b n e f steps r fits h.
       let made = turn_from a.kind past.primary past.primary_inbox i (numbers_of d b n) in
       let base = primary_base past made in
       let none = beside_no_end past.to_secondary (calm_of past (one_checkpoint F a steps past r) f).down in
       primary_settled (λ step after. Tells (steps ++ step ∷ []) after) past d i b n made
-      (λ out ns ps new. settled_tells steps past base (step_with (Primary d i b n) (Made made.index (length out)) [] None out)
+      (λ out ns ps new. settled_tells steps past base
+      (step_with (Primary d i b n) (Made made.index (length out)) [] None out)
       ns ps new refl refl refl refl h)
       (λ out ns ps new why alone. captured_tells _ (told_past base ns ps new) (told_no_end base ns ps new none));
   secondary_turn =
@@ -252,7 +254,8 @@ tell_cases F a = record {
       let base = secondary_base past made in
       let lone = (and_parts (is_primary_stop past.stop) past.is_reported e).1 in
       survivor_settled (λ step after. Tells (steps ++ step ∷ []) after) past d i b n made
-      (λ out ns ps new. settled_tells steps past base (step_with (Secondary d i b n) (Made made.index (length out)) [] None out)
+      (λ out ns ps new. settled_tells steps past base
+      (step_with (Secondary d i b n) (Made made.index (length out)) [] None out)
       ns ps new refl refl refl refl h)
       (λ out ns ps new why alone. absurd (true≢false (sym lone ∙ alone)));
   accepts =

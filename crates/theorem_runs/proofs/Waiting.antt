@@ -227,7 +227,8 @@ accepted_waits a log r false past w told named h =
       fresh = g.fresh;
     }
   where
-    by : (c : Bool) → AllByRecursion (IsTold a (log ++ r ∷ []) (past.next + 1)) (filter_map waiting_on past.to_secondary)
+    by : (c : Bool)
+        → AllByRecursion (IsTold a (log ++ r ∷ []) (past.next + 1)) (filter_map waiting_on past.to_secondary)
         → AllByRecursion (IsTold a (log ++ r ∷ []) (past.next + 1))
         (filter_map waiting_on (if c then past.to_secondary else past.to_secondary ++ frame_message w ∷ []))
     by true l = l
@@ -301,11 +302,13 @@ same_waits a log past after n p s c d h = record {
   copy = subst (λ (k : ℕ). AllByRecursion (IsTold a log k) after.copy.inbox) (sym n)
       (subst (λ (ws : List Waiting). AllByRecursion (IsTold a log past.next) ws) (sym c) h.copy);
   link = subst (λ (k : ℕ). AllByRecursion (IsTold a log k) (filter_map waiting_on after.to_secondary)) (sym n)
-      (subst (λ (ms : List Message). AllByRecursion (IsTold a log past.next) (filter_map waiting_on ms)) (sym d) h.link);
+      (subst (λ (ms : List Message). AllByRecursion (IsTold a log past.next) (filter_map waiting_on ms)) (sym d)
+      h.link);
   fresh = λ i le. h.fresh i (subst (λ (k : ℕ). k ≤ i) n le);
 }
 
-lost_waits : (a : Start) (log : List Record) (past : Past) → WaitRightly a log past → WaitRightly a log (lose_links past)
+lost_waits : (a : Start) (log : List Record) (past : Past) → WaitRightly a log past
+    → WaitRightly a log (lose_links past)
 lost_waits a log past h =
     record { primary = h.primary; secondary = h.secondary; copy = h.copy; link = tt; fresh = h.fresh }
 

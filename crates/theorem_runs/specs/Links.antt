@@ -45,8 +45,8 @@ copied_parts copy e =
     Begin e ∷ state_messages copy.run.run.state ++ inbox_messages copy.inbox
     ++ flat_map (row_messages copy.run.items copy.numbers) (order copy.run.items)
 
--- The primary is at its last capture, but for trims that it took since: so it is while a checkpoint is
--- awaited, where at most one node stops.
+-- The primary is at its last capture, but for trims that it took since: so it is while a checkpoint
+-- is awaited, where at most one node stops.
 pub record IsPaused (past : Past) : Type 0 where
   pub turns : past.primary.turns ≡ past.copy.run.turns
   pub run : past.primary.run ≡ past.copy.run.run

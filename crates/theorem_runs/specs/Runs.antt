@@ -157,9 +157,11 @@ is_or_was a steps xs i =
 -- it stops; and while an End is on the link with the copy, or behind it
 pub record AccountsFor (a : Start) (steps : List Step) (past : Past) : Type 0 where
   pub primary : secondary_releases past ≡ false
-      → AllByRecursion (λ i. IsTrue (contains_index i (primary_order past))) (accepted_indices steps)
+      → AllByRecursion (λ i. IsTrue (contains_index i (primary_order past)))
+      (accepted_indices steps)
   pub secondary : is_secondary_stop past.stop ≡ false
-      → AllByRecursion (λ i. IsTrue (is_or_was a steps (secondary_all past) i)) (accepted_indices steps)
+      → AllByRecursion (λ i. IsTrue (is_or_was a steps (secondary_all past) i))
+      (accepted_indices steps)
   pub copy : has_end past.to_secondary ≡ true
       → AllByRecursion (λ i. IsTrue (contains_index i (copy_order past))) (accepted_indices steps)
 

@@ -17,21 +17,22 @@ pub fn log_cuts_turns()
     ensures { LogCutsTurns }
 {}
 
-/// What a node keeps of its guest's segments is what the guest sent, with trims and commits between.
+/// What a node keeps of its guest's segments is what the guest sent, with trims and commits
+/// between.
 #[tactic(auto, using(crate::proofs::EachLaw::items_hold))]
 pub fn items_are_sent()
     ensures { ItemsAreSent }
 {}
 
-/// A frame that waits, in an inbox, in the captured one or on the link, is the accepted frame of its
-/// index, and what its client had seen is what the log says.
+/// A frame that waits, in an inbox, in the captured one or on the link, is the accepted frame of
+/// its index, and what its client had seen is what the log says.
 #[tactic(auto, using(crate::proofs::EachLaw::frames_hold))]
 pub fn frames_wait_rightly()
     ensures { FramesWaitRightly }
 {}
 
-/// Each node's run, and the captured one, is the run of its turns, each given the frame that the log
-/// says.
+/// Each node's run, and the captured one, is the run of its turns, each given the frame that the
+/// log says.
 #[tactic(auto, using(crate::proofs::EachLaw::runs_hold))]
 pub fn runs_are_the_logs()
     ensures { RunsAreTheLogs }
@@ -52,15 +53,15 @@ pub fn files_are_of_one_run()
 {}
 
 /// Where at most one node stops, the client frames that the run takes rise and are accepted frames
-/// of the stream; and of those that the pair accepted none is missing but by a full inbox, the report
-/// of the primary's stop, or because it still waits.
+/// of the stream; and of those that the pair accepted none is missing but by a full inbox, the
+/// report of the primary's stop, or because it still waits.
 #[tactic(auto, using(crate::proofs::Names::names_hold))]
 pub fn each_log_names_one_run()
     ensures { NamesOfEachLog }
 {}
 
-/// Right after an End is delivered the secondary's guest is in the state that all it was told spells
-/// over the start's.
+/// Right after an End is delivered the secondary's guest is in the state that all it was told
+/// spells over the start's.
 #[tactic(auto, using(crate::proofs::Telling::told_holds))]
 pub fn the_secondary_was_told_its_state()
     ensures { ToldOfEachLog }

@@ -266,7 +266,8 @@ taken_numbered past frame h = by (tcp_in frame)
         p ≡ progress_of (client_tuple_of s) past.progress →
         (shown : Option Opening) →
         AreNumbered (releasing_items past
-        ++ trim_items (Some s) (look_with s p.edge shown now).seen (look_with s p.edge shown now).trim) past.numbers past.progress
+        ++ trim_items (Some s) (look_with s p.edge shown now).seen (look_with s p.edge shown now).trim) past.numbers
+        past.progress
     seen s p now e None = same
     seen s p now e (Some shown) =
         trim_numbered (releasing_items past) past.numbers past.progress (client_tuple_of s) shown.client
