@@ -1,0 +1,5 @@
+pub mod Quiet
+pub mod Ages
+pub mod Places
+pub mod Firsts
+pub mod Laws
