@@ -18,7 +18,7 @@ event_after a steps past x = record {
   outcome = outcome_of a.kind a.stream past x;
 }
 
-one_event_more : (F : Past → Line → Type 0) (a : Start) (steps : List Step) (past : Past) (x : Line)
+pub one_event_more : (F : Past → Line → Type 0) (a : Start) (steps : List Step) (past : Past) (x : Line)
     → Reached F a steps past → events a (steps ++ (outcome_of a.kind a.stream past x).step ∷ [])
     ≡ events a steps ++ event_after a steps past x ∷ []
 unfolding events past_at events_from

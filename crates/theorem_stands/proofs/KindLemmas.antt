@@ -1,11 +1,12 @@
 -- What a settling releases of a connection: SYN, parts of the line, an acknowledgement, a reset, a refusal.
-use Rattle.std.proofs.Common.{◌≡◌, ◌⊎◌, inl, inr, ℕ, ◌+◌, ◌-◌, ◌*◌, ◌<◌, ◌≤◌, zero, suc, Bool, true, false, nat_le, max, min, is_some, List, [], ◌∷◌, ◌++◌, length, map, take, drop, slice_get, Option, None, Some, refl, sym, ap, subst, ◌∙◌, All, arith, length-drop, length-take}
+use Rattle.std.proofs.Common.{◌≡◌, ◌⊎◌, inl, inr, ℕ, ◌+◌, ◌-◌, ◌*◌, ◌<◌, ◌≤◌, zero, suc, Bool, true, false, nat_le, max, min, is_some, List, [], ◌∷◌, ◌++◌, length, map, take, drop, slice_get, Option, None, Some, refl, sym, ap, subst, ◌∙◌, All, arith, length-append, length-drop, length-take}
 use Rattle.std.specs.List.{enumerate_from, flat_map, range_with_len}
 use Rattle.std.specs.Option.{option_map}
 use Rattle.std.proofs.lemmas.Bool.{and_parts, cases_lt, cond_both, leb-true}
 use Rattle.std.proofs.lemmas.List.{length-map}
 use Rattle.std.proofs.lemmas.List.Elements.{All-append, All-cons, All-nil}
 use Rattle.std.proofs.lemmas.Option.{slice_get-map, slice_get_within}
+use Rattle.inet_frame.specs.Flags.{has_fin}
 use Rattle.tcp_track.specs.Lines as lines
 use Rattle.tcp_track.specs.Lines.{has_ended, no_line}
 use Rattle.tcp_track.specs.Segments.{Symbol, syn, byte, fin, fin_if, same_tuple}
@@ -27,7 +28,8 @@ pub record IsPartOf (symbols : List Symbol) (offset : ℕ) (xs : List Symbol) : 
 
 pub data IsOutOf (b : BothLines) : Released → Type 0 where
   opens : (mss : Option ℕ) → IsPartOf b.mine.symbols 0 (syn ∷ []) → IsOutOf b (segment_at b 0 syn_ack mss [])
-  tells : (offset : ℕ) (payload : List ℕ) (ends : Bool) → IsPartOf b.mine.symbols offset (data_of payload ends)
+  tells : (offset : ℕ) (payload : List ℕ) (ends : Bool) → has_fin (data_flags payload ends) ≡ ends
+      → 0 < length (data_of payload ends) → IsPartOf b.mine.symbols offset (data_of payload ends)
       → IsOutOf b (segment_at b offset (data_flags payload ends) None payload)
   answers : (offset : ℕ) → IsOutOf b (segment_at b offset ack_alone None [])
   resets : (offset : ℕ) → b.mine.reset ≡ true → IsOutOf b (segment_at b offset rst_ack None [])
@@ -121,13 +123,22 @@ part_of_part symbols offset xs more ys h g = record {
       subst (λ (n : ℕ). slice_get symbols n ≡ Some x) sum (h.each (more + j) x (g.each j x e));
 }
 
+fin_flag : (payload : List ℕ) (ends : Bool) → 0 < length payload → has_fin (data_flags payload ends) ≡ ends
+fin_flag [] ends h = absurd (omega (arith, h))
+fin_flag (x ∷ xs) true h = refl
+fin_flag (x ∷ xs) false h = refl
+
+longer_data : (payload : List ℕ) (ends : Bool) → 0 < length payload → 0 < length (data_of payload ends)
+longer_data payload ends h =
+    omega (arith, h, length-append (map byte payload) (fin_if ends), length-map payload byte)
+
 pub data_kinds : (b : BothLines) (offset : ℕ) (bytes : List ℕ) (ends : Bool) →
     IsPartOf b.mine.symbols offset (data_of bytes ends) → All (IsOutOf b) (data_segments b offset bytes ends)
 data_kinds b offset [] false h = All-nil (IsOutOf b)
 data_kinds b offset [] true h =
     let start : offset + 536 * 0 ≡ offset = omega arith in
     All-cons (IsOutOf b) (data_segment b offset [] true (0, [])) []
-    (tells (offset + 536 * 0) [] true
+    (tells (offset + 536 * 0) [] true refl (omega arith)
     (subst (λ (n : ℕ). IsPartOf b.mine.symbols n (data_of [] true)) (sym start) h)) (All-nil (IsOutOf b))
 data_kinds b offset (y ∷ ys) ends h =
     mapped_all (IsOutOf b) (data_segment b offset (y ∷ ys) ends) 0 (pieces_of largest_payload (y ∷ ys)) each
@@ -137,6 +148,10 @@ data_kinds b offset (y ∷ ys) ends h =
 
     count : ℕ
     count = piece_count largest_payload (length bytes)
+
+    full : (q : ℕ) → 536 * q < length bytes → 0 < length (piece_at largest_payload bytes q)
+    full q some =
+        omega (arith, length-take 536 (drop (536 * q) bytes), length-drop (536 * q) bytes, some)
 
     each : (k : ℕ) (payload : List ℕ) → slice_get (pieces_of largest_payload bytes) k ≡ Some payload →
         IsOutOf b (data_segment b offset bytes ends (0 + k, payload))
@@ -148,6 +163,10 @@ data_kinds b offset (y ∷ ys) ends h =
         subst (λ (xs : List ℕ). IsOutOf b (data_segment b offset bytes ends (0 + k, xs)))
         (ap (λ (n : ℕ). piece_at largest_payload bytes n) (sym at.1) ∙ found.1.1)
         (tells (offset + 536 * (0 + k)) (piece_at largest_payload bytes (0 + k)) (ends_here bytes ends (0 + k))
+        (fin_flag (piece_at largest_payload bytes (0 + k)) (ends_here bytes ends (0 + k))
+        (full (0 + k) (omega (arith, at.0))))
+        (longer_data (piece_at largest_payload bytes (0 + k)) (ends_here bytes ends (0 + k))
+        (full (0 + k) (omega (arith, at.0))))
         (part_of_part b.mine.symbols offset (data_of bytes ends) (536 * (0 + k))
         (data_of (piece_at largest_payload bytes (0 + k)) (ends_here bytes ends (0 + k))) h
         (piece_part bytes ends (0 + k) (omega (arith, at.0)))))

@@ -51,10 +51,10 @@ use Rattle.theorem_stands.proofs.KeptLemmas.{all_learnt, one_learnt}
 use Rattle.theorem_stands.proofs.NumberedLemmas.{all_own_numbered, cleared_numbered, committed_numbered, line_push, numbered_alike, numbered_trim, own_items, settle_numbered, survivor_numbered, thinned_numbered}
 
 -- WHICH NODE RELEASES
-no_survivor : (past : Past) → is_primary_stop past.stop ≡ false → secondary_releases past ≡ false
+pub no_survivor : (past : Past) → is_primary_stop past.stop ≡ false → secondary_releases past ≡ false
 no_survivor past e = ap (λ (b : Bool). b && past.is_reported) e
 
-not_yet : (past : Past) → past.is_reported ≡ false → secondary_releases past ≡ false
+pub not_yet : (past : Past) → past.is_reported ≡ false → secondary_releases past ≡ false
 not_yet past e = by (is_primary_stop past.stop) past.is_reported e
   where
     by : (b c : Bool) → c ≡ false → (b && c) ≡ false
@@ -65,7 +65,7 @@ not_yet past e = by (is_primary_stop past.stop) past.is_reported e
 abbrev either : Bool → List Item → List Item → List Item
 either b theirs mine = if b then theirs else mine
 
-when_primary : (b : Bool) (theirs mine : List Item) (numbers : List KeptNumber) (progress : ProgressTable) →
+pub when_primary : (b : Bool) (theirs mine : List Item) (numbers : List KeptNumber) (progress : ProgressTable) →
     b ≡ false → AreNumbered (either b theirs mine) numbers progress → AreNumbered mine numbers progress
 when_primary b theirs mine numbers progress e h =
     subst (λ (c : Bool). AreNumbered (either c theirs mine) numbers progress) e h
@@ -75,7 +75,7 @@ as_primary : (b : Bool) (theirs mine : List Item) (numbers : List KeptNumber) (p
 as_primary b theirs mine numbers progress e h =
     subst (λ (c : Bool). AreNumbered (either c theirs mine) numbers progress) (sym e) h
 
-when_survivor : (b : Bool) (theirs mine : List Item) (numbers : List KeptNumber) (progress : ProgressTable) →
+pub when_survivor : (b : Bool) (theirs mine : List Item) (numbers : List KeptNumber) (progress : ProgressTable) →
     b ≡ true → AreNumbered (either b theirs mine) numbers progress → AreNumbered theirs numbers progress
 when_survivor b theirs mine numbers progress e h =
     subst (λ (c : Bool). AreNumbered (either c theirs mine) numbers progress) e h
@@ -142,7 +142,7 @@ settled_survivor p settling x marks delivered answer e h =
     absurd (cc (sym (ap (λ (b : Bool). if b then None else cause_of scene (order own.items) ended.progress) alone)
     ∙ some)))
 
-turn_items : (kind : Kind) (node : NodeRun) (inbox : List Waiting) (takes : Bool) (n : TurnNumbers) →
+pub turn_items : (kind : Kind) (node : NodeRun) (inbox : List Waiting) (takes : Bool) (n : TurnNumbers) →
     (turn_from kind node inbox takes n).run.items
     ≡ node.items ++ map sent (segments (turn_from kind node inbox takes n).output)
 unfolding turn_from turn_if turn_with turn_without add_turn
@@ -320,14 +320,14 @@ quiet_settled p settling x marks delivered answer e none before fit h =
     (settled_event p settling fit (subst (All AreInRange) (sym none) (All-nil AreInRange))
     (subst (λ (xs : List Item). AreNumbered xs p.numbers p.progress) (sym before) h)))
 
-learnt_numbered : (past : Past) (t : Tuple) (client number : ℕ) →
+pub learnt_numbered : (past : Past) (t : Tuple) (client number : ℕ) →
     AreNumbered past.primary.items past.numbers past.progress →
     AreNumbered past.primary.items (learn_number past.numbers t client number) past.progress
 learnt_numbered past t client number h u =
     numbered_alike u (line u past.primary.items) (progress_of u past.progress) past.numbers
     (learn_number past.numbers t client number) (λ o e. one_learnt past.numbers t client number u o.client) (h u)
 
-acknowledged_numbered : (past : Past) → AreNumbered past.primary.items past.numbers past.progress →
+pub acknowledged_numbered : (past : Past) → AreNumbered past.primary.items past.numbers past.progress →
     AreNumbered (committed_items past) (learn_all past.numbers) (clear_ages past.progress)
 acknowledged_numbered past h =
     cleared_numbered (committed_items past) (learn_all past.numbers) past.progress (λ u.

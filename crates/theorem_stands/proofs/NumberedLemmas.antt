@@ -333,7 +333,7 @@ thinned_numbered items numbers progress h t =
     numbered_alike t (line t items) (progress_of t progress) numbers (thin items numbers)
     (λ o e. found_alike t o.client numbers (thin items numbers) (kept_thinned items t o numbers e)) (h t)
 
-cleared : (t : Tuple) (table : ProgressTable) →
+pub cleared : (t : Tuple) (table : ProgressTable) →
     ((progress_of t (clear_ages table)).edge ≡ (progress_of t table).edge)
     × ((progress_of t (clear_ages table)).shown ≡ (progress_of t table).shown)
 cleared t [] = (refl, refl)

@@ -84,10 +84,21 @@ with_cases b zero (suc n) bare reset_it tooks sound opened bares resets_it =
 with_cases b zero zero bare reset_it tooks sound opened bares resets_it =
     nothing refl (nothing_yet b bare reset_it tooks bares (λ e. (resets_it e).1))
 
+resets_mine : (b : BothLines) (p : Progress) → resets_at b p ≡ true →
+    (b.mine.reset ≡ true) × (0 < new_edge b p.edge)
+resets_mine b p e =
+    let agrees = (and_parts p.reset_due (agrees_on_reset b (new_edge b p.edge)) e).1 in
+    let some = nat_lt 0 (new_edge b p.edge) in
+    let mine = and_parts b.mine.reset (b.theirs.reset && (has_one_client b && some)) agrees in
+    let theirs = and_parts b.theirs.reset (has_one_client b && some) mine.1 in
+    let one = and_parts (has_one_client b) some theirs.1 in
+    (mine.0, ltb-true 0 (new_edge b p.edge) one.1)
+
 pub plain_cases : (b : BothLines) (p : Progress) (tooks : List Took) → IsSound b.mine →
     PlainCases b p.edge (new_edge b p.edge) (plain_of b p tooks)
 plain_cases b p tooks sound =
-    with_cases b p.edge (new_edge b p.edge) (wants_bare_at b p tooks) (resets_at b p) tooks sound opened bares resets_it
+    with_cases b p.edge (new_edge b p.edge) (wants_bare_at b p tooks) (resets_at b p) tooks sound opened bares
+    (resets_mine b p)
   where
     opened : p.edge ≡ 0 → 0 < new_edge b p.edge → is_some b.mine.opening ≡ true
     opened e some = by (goes_out b p.edge) refl some
@@ -104,23 +115,20 @@ plain_cases b p tooks sound =
         let parts = and_parts (is_empty symbols) (nat_lt 0 (new_edge b p.edge) && wants) e in
         ltb-true 0 (new_edge b p.edge) (and_parts (nat_lt 0 (new_edge b p.edge)) wants parts.1).0
 
-    resets_it : resets_at b p ≡ true → (b.mine.reset ≡ true) × (0 < new_edge b p.edge)
-    resets_it e =
-        let agrees = (and_parts p.reset_due (agrees_on_reset b (new_edge b p.edge)) e).1 in
-        let some = nat_lt 0 (new_edge b p.edge) in
-        let mine = and_parts b.mine.reset (b.theirs.reset && (has_one_client b && some)) agrees in
-        let theirs = and_parts b.theirs.reset (has_one_client b && some) mine.1 in
-        let one = and_parts (has_one_client b) some theirs.1 in
-        (mine.0, ltb-true 0 (new_edge b p.edge) one.1)
+pub plain_all : (b : BothLines) (p : Progress) (tooks : List Took) → IsSound b.mine →
+    All (IsOutOf b) (plain_of b p tooks)
+plain_all b p tooks sound =
+    plain_kinds b p.edge (new_edge b p.edge) (wants_bare_at b p tooks) (resets_at b p) tooks sound
+    (λ e. (resets_mine b p e).0)
 
 -- THE SYN LAST SHOWN
 abbrev pub known_as : BothLines → ℕ → Opening
 known_as b client = record { client = client; own = b.number }
 
-syn_number : (b : BothLines) → b.number < 2 ^ 32 → (b.number + 0) % 2 ^ 32 ≡ b.number
+pub syn_number : (b : BothLines) → b.number < 2 ^ 32 → (b.number + 0) % 2 ^ 32 ≡ b.number
 syn_number b small = omega (arith, small)
 
-no_syn : (payload : List ℕ) (ends : Bool) → (data_flags payload ends == syn_ack) ≡ false
+pub no_syn : (payload : List ℕ) (ends : Bool) → (data_flags payload ends == syn_ack) ≡ false
 no_syn [] ends = refl
 no_syn (x ∷ xs) true = refl
 no_syn (x ∷ xs) false = refl
@@ -130,14 +138,14 @@ same_shown : (b : BothLines) (client : ℕ) (r : Released) → b.number < 2 ^ 32
     shown_after client (Some (known_as b client)) (r ∷ []) ≡ Some (known_as b client)
 same_shown b client r small (opens mss h) =
     ap (λ (n : ℕ). Some (record { client = client; own = n })) (syn_number b small)
-same_shown b client r small (tells offset payload ends h) =
+same_shown b client r small (tells offset payload ends fin_is some h) =
     ap (λ (is : Bool). if is then Some (record { client = client; own = (b.number + offset) % 2 ^ 32 })
     else Some (known_as b client)) (no_syn payload ends)
 same_shown b client r small (answers offset) = refl
 same_shown b client r small (resets offset h) = refl
 same_shown b client r small (refuses c h) = refl
 
-shown_next : (client : ℕ) (shown : Option Opening) (r : Released) (out : List Released) →
+pub shown_next : (client : ℕ) (shown : Option Opening) (r : Released) (out : List Released) →
     shown_after client shown (r ∷ out) ≡ shown_after client (shown_after client shown (r ∷ [])) out
 shown_next client shown (tcp s payload) out = refl
 shown_next client shown (reply bytes) out = refl
