@@ -1,0 +1,4 @@
+pub mod Fronts
+pub mod HeardLemmas
+pub mod ItemLemmas
+pub mod PauseLemmas

@@ -1,0 +1,9 @@
+//! What a stop of the primary joins, as the sentences on splicing say it, of every log of the
+//! pair's definitions. A crate of laws: its functions do nothing.
+#![tactic(auto)]
+
+mod pauses;
+mod splices;
+
+pub use pauses::pauses_of_each_log;
+pub use splices::known_splices_each_log;
