@@ -12,6 +12,11 @@ use std::alloc::Global;
 /// What a script drives. No call has a clause, so that what the contracts say stands in no goal of
 /// a test.
 pub trait Kept {
+    /// The state's bytes alone, of a guest with two pages and three sectors; `None` where memory
+    /// ran out.
+    fn start(alloc: Global, state: Contents) -> Option<Self>
+    where
+        Self: Sized;
     /// Keeps a message, where it fits, and says whether it did; `None` where memory ran out.
     fn hear(&mut self, message: &Message) -> Option<bool>;
     /// What the whole gives; `None` where memory ran out.
@@ -32,15 +37,6 @@ pub struct Whole {
 #[derive(Drop)]
 pub struct Apart {
     kept: KeptCheckpoint,
-}
-
-impl Apart {
-    /// The state's bytes alone.
-    pub fn new(alloc: Global, state: Contents) -> Result<Apart, NoMemory> {
-        Ok(Apart {
-            kept: KeptCheckpoint::new(alloc, state, 2, 3)?,
-        })
-    }
 }
 
 /// Whether a page has its size.
@@ -67,6 +63,11 @@ fn whole_of(tables: &Tables) -> Whole {
 }
 
 impl Kept for Apart {
+    fn start(alloc: Global, state: Contents) -> Option<Apart> {
+        let kept = KeptCheckpoint::new(alloc, state, 2, 3).ok()?;
+        Some(Apart { kept })
+    }
+
     fn hear(&mut self, message: &Message) -> Option<bool> {
         if !self.kept.fits(message) || !is_sized(message) {
             return Some(false);

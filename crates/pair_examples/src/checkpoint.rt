@@ -4,7 +4,7 @@
 //! `page` has its number, `disk` the first sector and how many bytes come, `line` flags, the
 //! connection's number and base, and `bytes` how many there are.
 
-use crate::apart::{Apart, Kept};
+use crate::apart::{Apart, Kept, Whole};
 use colo_base::Contents;
 use colo_wire::Message;
 use inet_frame::Tuple;
@@ -85,21 +85,35 @@ fn message(alloc: Global, text: &str) -> Result<Message, Fail> {
     }
 }
 
+/// Hears the message that words name.
+fn hear<K: Kept>(alloc: Global, kept: &mut K, text: &str) -> Result<Option<bool>, Fail> {
+    let message = message(alloc, text)?;
+    Ok(kept.hear(&message))
+}
+
+/// Whether a message is answered so.
+fn is_answered<K: Kept>(alloc: Global, kept: &mut K, line: &str) -> Result<bool, Fail> {
+    let (text, answer) = line.split_once(" : ").unwrap_or((line, ""));
+    Ok(match hear(alloc, kept, text)? {
+        Some(fits) => answer == if fits { "yes" } else { "no" },
+        None => false,
+    })
+}
+
 /// Hears the messages of a script, and asserts of each whether it fits.
-fn play<K: Kept>(rt: &(impl Abort + AllocGlobal), kept: &mut K, script: &str) -> Result<(), Fail> {
+fn play<R: Abort + AllocGlobal, K: Kept>(rt: &R, kept: &mut K, script: &str) -> Result<(), Fail> {
     for line in script.lines() {
-        let (text, answer) = line.split_once(" : ").ok_or("no answer")?;
-        let fits = kept
-            .hear(&message(rt.alloc(), text)?)
-            .ok_or("out of memory")?;
-        assert_eq!(rt; if fits { "yes" } else { "no" }, answer, "{line}");
+        assert!(rt; is_answered(rt.alloc(), kept, line)?, "{line}");
     }
     Ok(())
 }
 
-/// What is kept for a guest with two pages and three sectors.
-fn two_pages(alloc: Global) -> Result<Apart, Fail> {
-    Ok(Apart::new(alloc, zeros(alloc, 8)?)?)
+/// What the whole gives of the messages of a script.
+fn whole<R: Abort + AllocGlobal, K: Kept + Drop>(rt: &R, script: &str) -> Result<Whole, Fail> {
+    let state = zeros(rt.alloc(), 8)?;
+    let mut kept = K::start(rt.alloc(), state).ok_or("out of memory")?;
+    play(rt, &mut kept, script)?;
+    Ok(kept.close().ok_or("out of memory")?)
 }
 
 /// The flag 1 is of a line that is opened, and 8 of one that ends; 2147483647 is 2^31 - 1. Bytes
@@ -141,18 +155,14 @@ bytes 2 : yes
 
 #[test]
 fn what_has_a_place_fits(rt: HostRuntime) -> Result<(), Fail> {
-    let mut kept = two_pages(rt.alloc())?;
-    play(&rt, &mut kept, FITS)?;
-    let whole = kept.close().ok_or("out of memory")?;
+    let whole = whole::<_, Apart>(&rt, FITS)?;
     assert_eq!(rt; whole.frames, 1);
     Ok(())
 }
 
 #[test]
 fn the_last_line_and_the_first_number_are_kept(rt: HostRuntime) -> Result<(), Fail> {
-    let mut kept = two_pages(rt.alloc())?;
-    play(&rt, &mut kept, LINES)?;
-    let whole = kept.close().ok_or("out of memory")?;
+    let whole = whole::<_, Apart>(&rt, LINES)?;
     assert_eq!(rt; whole.lines, 1);
     assert_eq!(rt; whole.end, Some(3));
     assert_eq!(rt; whole.number, Some(5000));

@@ -14,7 +14,8 @@
 //! - `client ACK TRIM`: a client's acknowledgement, and how far it trims;
 //! - `captured` and `acknowledged`: a checkpoint's;
 //! - `alone`: the other node stopped;
-//! - `survive FRAMES`: the node becomes the survivor with its own lines, and how many frames go out;
+//! - `survive FRAMES`: the node becomes the survivor with its own lines, and how many frames go
+//!   out;
 //! - `line PORT BASE END` and `number PORT CLIENT NUMBER`: where an own line begins and ends, and a
 //!   number that is kept.
 
@@ -348,36 +349,54 @@ fn play<R: Abort, P: Pair>(rt: &R, pair: &mut P, texts: &[&str]) {
     }
 }
 
+/// Plays the texts at a comparer of which nothing was sent yet.
+fn plays<R: Abort + AllocGlobal, P: Pair + Drop>(rt: &R, texts: &[&str]) {
+    play(rt, &mut P::start(rt.alloc()), texts);
+}
+
+/// Plays each text after the opening.
+fn plays_each<R: Abort + AllocGlobal, P: Pair + Drop>(rt: &R, texts: &[&str]) {
+    for text in texts {
+        plays::<R, P>(rt, &[OPENING, text]);
+    }
+}
+
+/// Asserts that the first frame of the opening has these bytes.
+fn opens_with<R: Abort + AllocGlobal, P: Pair + Drop>(rt: &R, frame: &[u8]) {
+    let mut pair = P::start(rt.alloc());
+    play(rt, &mut pair, &[OPENING]);
+    assert_eq!(rt; pair.frame(0), Some(frame));
+}
+
 #[test]
 fn exchanges_are_answered_step_by_step(rt: HostRuntime) {
-    for text in [
-        DIFFERENCE, CUTS, RESTART, SILENCE, NEIGHBOURS, WINDOW, RESET, FIN, FIN_OF_536, FIN_OF_537,
-    ] {
-        play(&rt, &mut Exchange::new(rt.alloc()), &[OPENING, text]);
-    }
+    plays_each::<_, Exchange>(
+        &rt,
+        &[
+            DIFFERENCE, CUTS, RESTART, SILENCE, NEIGHBOURS, WINDOW, RESET, FIN, FIN_OF_536,
+            FIN_OF_537,
+        ],
+    );
 }
 
 #[test]
 fn guests_without_a_released_syn(rt: HostRuntime) {
-    for text in [EARLY_RESET, REFUSAL, OTHER_CLIENT] {
-        play(&rt, &mut Exchange::new(rt.alloc()), &[text]);
-    }
+    plays::<_, Exchange>(&rt, &[EARLY_RESET]);
+    plays::<_, Exchange>(&rt, &[REFUSAL]);
+    plays::<_, Exchange>(&rt, &[OTHER_CLIENT]);
 }
 
 #[test]
 fn a_survivor_releases_all_that_its_lines_hold(rt: HostRuntime) {
-    let mut pair = Exchange::new(rt.alloc());
-    play(&rt, &mut pair, &[OPENING, RESTART, SURVIVOR]);
+    plays::<_, Exchange>(&rt, &[OPENING, RESTART, SURVIVOR]);
 }
 
 #[test]
 fn a_node_alone_releases_its_own_bytes_and_needs_no_checkpoint(rt: HostRuntime) {
-    play(&rt, &mut Exchange::new(rt.alloc()), &[OPENING, ALONE]);
+    plays::<_, Exchange>(&rt, &[OPENING, ALONE]);
 }
 
 #[test]
 fn the_syn_that_goes_out_is_58_bytes(rt: HostRuntime) {
-    let mut pair = Exchange::new(rt.alloc());
-    play(&rt, &mut pair, &[OPENING]);
-    assert_eq!(rt; pair.frame(0), Some(SYN.as_slice()));
+    opens_with::<_, Exchange>(&rt, &SYN);
 }

@@ -32,6 +32,10 @@ pub struct Why {
 /// of a test. A call that is not answered for want of a condition or of memory answers `false` or
 /// `None`.
 pub trait Pair {
+    /// Nothing was sent yet.
+    fn start(alloc: Global) -> Self
+    where
+        Self: Sized;
     /// The node's own guest sends.
     fn own(&mut self, sent: &Sent) -> bool;
     /// The other node's guest sends.
@@ -68,17 +72,6 @@ pub struct Exchange {
     alloc: Global,
     compare: Compare,
     out: Frames,
-}
-
-impl Exchange {
-    /// Nothing was sent yet.
-    pub fn new(alloc: Global) -> Exchange {
-        Exchange {
-            alloc,
-            compare: Compare::new(alloc),
-            out: Frames::new(alloc),
-        }
-    }
 }
 
 fn tuple_of(port: u16) -> Tuple {
@@ -144,7 +137,21 @@ fn survivor(alloc: Global, compare: &Compare, out: &mut Frames) -> Result<Compar
     Compare::survive(alloc, lines, numbers, out)
 }
 
+/// Makes a comparer the survivor that has its own lines.
+fn survive(alloc: Global, compare: &mut Compare, out: &mut Frames) -> Result<(), NoMemory> {
+    *compare = survivor(alloc, compare, out)?;
+    Ok(())
+}
+
 impl Pair for Exchange {
+    fn start(alloc: Global) -> Exchange {
+        Exchange {
+            alloc,
+            compare: Compare::new(alloc),
+            out: Frames::new(alloc),
+        }
+    }
+
     fn own(&mut self, sent: &Sent) -> bool {
         match frame(self.alloc, sent) {
             Ok(frame) => self.compare.primary(&frame).is_ok(),
@@ -218,15 +225,8 @@ impl Pair for Exchange {
     }
 
     fn survive(&mut self) -> bool {
-        let mut out = Frames::new(self.alloc);
-        match survivor(self.alloc, &self.compare, &mut out) {
-            Ok(compare) => {
-                self.compare = compare;
-                self.out = out;
-                true
-            }
-            Err(NoMemory) => false,
-        }
+        self.out = Frames::new(self.alloc);
+        survive(self.alloc, &mut self.compare, &mut self.out).is_ok()
     }
 
     fn line(&self, port: u16) -> Option<(u32, u32)> {

@@ -1,5 +1,5 @@
-//! Worked examples of the pair: the guest for tests, messages, a checkpoint kept apart, the
-//! secondary, what goes out and the comparer.
+//! Worked examples of the pair: the guest for tests, messages, a checkpoint kept apart, both nodes,
+//! what goes out and the comparer.
 #![tactic(auto)]
 
 #[cfg(test)]
@@ -17,8 +17,14 @@ mod messages;
 #[cfg(test)]
 mod node;
 #[cfg(test)]
+mod primary;
+#[cfg(test)]
 mod release;
 #[cfg(test)]
+mod script;
+#[cfg(test)]
 mod secondary;
+#[cfg(test)]
+mod survivor;
 #[cfg(test)]
 mod words;

@@ -3,6 +3,7 @@
 use colo_wire::{Message, WireFault, decode, encode};
 use inet_frame::Tuple;
 use std::alloc::{AllocError, Global};
+use std::process::Abort;
 use std::test::Fail;
 
 /// The acknowledgement of checkpoint 1, and after it the primary's number 5000 for the connection
@@ -136,28 +137,83 @@ fn spelled(alloc: Global, kind: u8, front: &[u8], fill: usize) -> Result<Vec<u8>
     Ok(bytes)
 }
 
-/// Reads a message with a byte after it, and writes it again.
-fn is_read_and_written(alloc: Global, bytes: &[u8]) -> Result<bool, Fail> {
-    let mut more = bytes.to_vec(alloc)?;
-    more.push(9)?;
-    let (message, size) = decode(alloc, &more)?;
-    let mut out = Vec::new(alloc);
-    encode(&message, &mut out)?;
-    Ok(size == bytes.len() && out.as_slice() == bytes)
+/// What reads and writes messages. No call has a clause, so that what the contracts say stands in
+/// no goal of a test.
+trait Codes {
+    /// Why bytes don't begin with a message.
+    fn fault(&self, bytes: &[u8]) -> Option<WireFault>;
+    /// The size of the message with which bytes begin, and it as it is written again.
+    fn again(&self, bytes: &[u8]) -> Result<(usize, Vec<u8>), Fail>;
 }
 
-#[test]
-fn each_kind_is_read_and_written(rt: HostRuntime) -> Result<(), Fail> {
+/// The messages of the pair.
+#[derive(Clone, Copy)]
+struct Coded(Global);
+
+impl Codes for Coded {
+    fn fault(&self, bytes: &[u8]) -> Option<WireFault> {
+        decode(self.0, bytes).err()
+    }
+
+    fn again(&self, bytes: &[u8]) -> Result<(usize, Vec<u8>), Fail> {
+        let (message, size) = decode(self.0, bytes)?;
+        let mut out = Vec::new(self.0);
+        encode(&message, &mut out)?;
+        Ok((size, out))
+    }
+}
+
+/// Reads a message with a byte after it, and writes it again.
+fn is_read_and_written<C: Codes>(alloc: Global, coded: &C, bytes: &[u8]) -> Result<bool, Fail> {
+    let mut more = bytes.to_vec(alloc)?;
+    more.push(9)?;
+    let (size, again) = coded.again(&more)?;
+    Ok(size == bytes.len() && again.as_slice() == bytes)
+}
+
+/// Whether each shorter front of a message is its beginning.
+fn are_begun<C: Codes>(coded: &C, bytes: &[u8]) -> bool {
+    for n in 0..bytes.len() {
+        if coded.fault(&bytes[..n]) != Some(WireFault::More) {
+            return false;
+        }
+    }
+    true
+}
+
+/// Whether a message of a kind is read and written, and each shorter front of it is its beginning.
+fn is_whole<C: Codes>(
+    alloc: Global,
+    coded: &C,
+    kind: u8,
+    front: &[u8],
+    fill: usize,
+) -> Result<bool, Fail> {
+    let bytes = spelled(alloc, kind, front, fill)?;
+    Ok(are_begun(coded, &bytes) && is_read_and_written(alloc, coded, &bytes)?)
+}
+
+/// Asserts that each kind is read and written.
+fn are_read_and_written<R: Abort + AllocGlobal, C: Codes>(rt: &R, coded: &C) -> Result<(), Fail> {
     for (kind, front, fill) in MESSAGES {
-        let bytes = spelled(rt.alloc(), kind, front, fill)?;
-        let begins = (0..bytes.len()).all(|n| decode(rt.alloc(), &bytes[..n]).err()
-            == Some(WireFault::More));
         assert!(rt;
-            begins && is_read_and_written(rt.alloc(), &bytes)?,
+            is_whole(rt.alloc(), coded, kind, front, fill)?,
             "kind {kind}"
         );
     }
     Ok(())
+}
+
+/// Asserts why each of the others is refused.
+fn are_refused<R: Abort, C: Codes>(rt: &R, coded: &C) {
+    for (bytes, fault) in OTHERS {
+        assert_eq!(rt; coded.fault(bytes), Some(fault), "{bytes:?}");
+    }
+}
+
+#[test]
+fn each_kind_is_read_and_written(rt: HostRuntime) -> Result<(), Fail> {
+    are_read_and_written(&rt, &Coded(rt.alloc()))
 }
 
 #[test]
@@ -180,7 +236,5 @@ fn spellings(rt: HostRuntime) -> Result<(), Fail> {
 
 #[test]
 fn others_are_refused(rt: HostRuntime) {
-    for (bytes, fault) in OTHERS {
-        assert_eq!(rt; decode(rt.alloc(), bytes).err(), Some(fault), "{bytes:?}");
-    }
+    are_refused(&rt, &Coded(rt.alloc()));
 }
