@@ -79,6 +79,22 @@ impl<G: Guest + Drop> Pair<G> {
         ensures steps { IfOk result (λ p. p.steps ≡ 0) }
         ensures spent { IfOk result (λ p. p.spent ≡ false) }
     {
+        Pair::with_frames(alloc, first, second, Frames::new(alloc))
+    }
+
+    /// A pair over these guests, of which no event has happened, and to which clients send these
+    /// frames, one with each line `c`.
+    pub fn with_frames(
+        alloc: Global,
+        first: G,
+        second: G,
+        frames: Frames,
+    ) -> Result<Pair<G>, NoMemory>
+        ensures pair { IfOk result (λ p. pair_of G.meaning p
+            ≡ record (new_pair (G.meaning first) (G.meaning second)) { frames = frames }) }
+        ensures steps { IfOk result (λ p. p.steps ≡ 0) }
+        ensures spent { IfOk result (λ p. p.spent ≡ false) }
+    {
         let first = Primary::new(alloc, first)?;
         let second = Secondary::new(alloc, second)?;
         Ok(Pair {
@@ -87,7 +103,7 @@ impl<G: Guest + Drop> Pair<G> {
                 second,
                 down: Outbox::new(alloc),
                 up: Outbox::new(alloc),
-                frames: Frames::new(alloc),
+                frames,
                 next: 0,
                 stopped: None,
                 is_reported: false,
