@@ -1,7 +1,7 @@
 #!/usr/bin/env bash
-# Runs the tools that show a run, and the built `colo` on what the stored run doesn't show: a status other than 0, a demo image,
-# sessions with the demo servers, and three C programs, of which memory or the disk is checked afterwards, and whose runs are made
-# again by `solo`. Where a tool is missing, one line says what was passed over.
+# Runs the tools that show a run, and the built `colo`: the stored failover, and what it doesn't show: a status other than 0, a demo
+# image, sessions of one machine and of a pair with the demo servers, and three C programs, of which memory or the disk is checked
+# afterwards, and whose runs are made again by `solo`. Where a tool is missing, one line says what was passed over.
 # COLO names the program `colo`, if it is not the one built in crates/colo.
 set -eu
 cd "$(dirname "$0")"
@@ -10,7 +10,7 @@ if command -v python3 > /dev/null; then
     python3 look.py out-look
     rm -rf out-look
 fi
-colo=${COLO:-../crates/colo/out/colo}
+colo=$(readlink -m "${COLO:-../crates/colo/out/colo}")
 if [ ! -x "$colo" ]; then
     echo "skipped: there is no $colo; 'rt run' in crates/colo builds it"
     exit 0
@@ -61,8 +61,12 @@ cat out/stopped.sent out/stopped.ram out/stopped.disk | cmp /dev/null -
 ends 7 "write failed" image mute missing/mute.elf
 echo "statuses and the demo image: as they must be"
 
+cmp ../crates/colo/data/echo.elf out/echo.elf
 if command -v python3 > /dev/null; then
+    (cd ../crates/colo/data && "$colo" replay echo.elf disk.img client.bin failover.schedule ../../../examples/out/failover) > out/printed
+    python3 echo_failover.py ../crates/colo/data out/failover
     python3 sessions.py "$colo" out
+    python3 pair_sessions.py "$colo" out
 else
     echo "skipped: the sessions with the demo servers, since there is no python3"
 fi

@@ -7,7 +7,7 @@ use Rattle.colo_base.proofs.StateLemmas.{changes_wider}
 use Rattle.colo_top.specs.declared.fault.Fault.{Fault}
 use Rattle.colo_top.specs.declared.fault.Fault.TheVariants.{Usage, Refused, Read, Write, NoMemory}
 use Rattle.colo_top.specs.declared.fault.Refusal.{Refusal}
-use Rattle.colo_top.specs.declared.fault.Refusal.TheVariants.{BadImage, BadDisk, BadLine, BadClient, NotBuilt}
+use Rattle.colo_top.specs.declared.fault.Refusal.TheVariants.{BadImage, BadDisk, BadLine, BadClient}
 use Rattle.colo_top.specs.Command.{out_of, outputs_of, reads, run_reads}
 use Rattle.colo_top.specs.Files.{IsFileOf, KeepsFiles, WritesOnly}
 use Rattle.colo_top.specs.Outcome.{IsDone, IsCutOff, Judges, Stops, IsUntouched, FailsBy, Fails, Succeeds}
@@ -77,7 +77,7 @@ start_judged c s lines start none =
 prepared_judged : (c : RunWords) (s : ShelfState) → Prepared c s → Judges (replay_command c) s None
 prepared_judged c s p =
     let t = p.start.texts in
-    (t, p.start.read, start_judged c s (TestSchedule t.lines) p.start (schedule_none t.lines p.turns p.schedule))
+    (t, p.start.read, start_judged c s (TestSchedule t.lines) p.start (schedule_none t.lines p.lines p.schedule))
 
 single_judged : (c : RunWords) (s : ShelfState) → SoloPrepared c s → Judges (solo_command c) s None
 single_judged c s p =
@@ -245,7 +245,6 @@ module _ (call : Call) (command : Command) (spelled : read_words call.words ≡ 
   means_refused (BadDisk size) ends = (size, ends)
   means_refused (BadLine number) ends = (number, ends)
   means_refused (BadClient place) ends = (place, ends)
-  means_refused NotBuilt ends = ends
 
   means_failed : (fault : Fault) → FailsBy command old new fault
       → Prints call.before.sink call.after.sink (line fault) → Means call (status fault)

@@ -1,4 +1,3 @@
-pub mod LogLemmas
 pub mod SinkLemmas
 pub mod TestLemmas
 pub mod ClientLemmas
@@ -6,11 +5,11 @@ pub mod SameLemmas
 pub mod BootLemmas
 pub mod CommandLemmas
 pub mod LoadLemmas
-pub mod SingleLemmas
 pub mod LimitLemmas
 pub mod PartLemmas
 pub mod FileLemmas
-pub mod RunLemmas
+pub mod WritingLemmas
+pub mod OrderLemmas
 pub mod ReplayLemmas
 pub mod EndLemmas
 pub mod StopLemmas

@@ -13,7 +13,7 @@ use Rattle.colo_top.specs.Loading.{IsLoaded, LoadFails}
 use Rattle.colo_top.specs.Outcome.{FailsBy, IsUntouched, Judges}
 use Rattle.colo_top.specs.Reading.{AreRead, FetchFailed, Texts}
 use Rattle.colo_top.specs.Replay.{Start}
-use Rattle.colo_top.specs.RunSteps.{FailsTest}
+use Rattle.colo_top.specs.Refusing.{FailsTest}
 use Rattle.colo_top.specs.Status.{read_fault}
 use Rattle.colo_top.specs.Tests.{Finds, TestRun, TestStart}
 use Rattle.colo_top.specs.Words.{Command, RunWords}

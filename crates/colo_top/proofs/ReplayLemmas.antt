@@ -1,27 +1,32 @@
 -- From the parts of a command to the whole of it.
-use Rattle.std.proofs.Common.{◌≡◌, ℕ, List, inl, inr, lit<, refl, subst, sym, Result, Ok, Err, IfOk, IfErr, OnOk, String, string_bytes}
-use Rattle.std.specs.declared.alloc.Global.{Global}
+use Rattle.std.proofs.Common.{◌≡◌, ℕ, List, [], inl, inr, lit<, refl, subst, sym}
 use Rattle.colo_base.specs.Count.{Increased}
 use Rattle.colo_base.specs.Shelf.{ShelfState, NoFetchFailed, NoWriteFailed}
 use Rattle.colo_base.specs.declared.traits.ShelfFault.{ShelfFault}
 use Rattle.colo_base.specs.declared.traits.ShelfFault.TheVariants.{Failed, NoMemory as shelf_memory}
 use Rattle.colo_base.proofs.StateLemmas.{changes_none, front_itself}
-use Rattle.replay_log.specs.Texts.{IsLog}
+use Rattle.replay_log.specs.Texts.{IsLog, IsSchedule}
 use Rattle.replay_log.specs.declared.records.Record.{Record}
 use Rattle.splice_run.specs.Single.{single_run}
 use Rattle.state_wire.specs.Guest.{Meaning}
 use Rattle.colo_top.specs.declared.fault.Fault.{Fault}
 use Rattle.colo_top.specs.declared.fault.Fault.TheVariants.{Usage, Refused, Read, Write, NoMemory}
 use Rattle.colo_top.specs.declared.output.Output.TheVariants.{Named}
-use Rattle.colo_top.specs.declared.schedule.Turn.{Turn}
-use Rattle.colo_top.specs.Command.{replay_outputs, named_outputs}
+use Rattle.command_plans.specs.Replay.{events, replay_steps, summary_line}
+use Rattle.file_steps.specs.Steps.{FailsToWrite, Step, Writes}
+use Rattle.file_steps.specs.declared.fault.Fault as step
+use Rattle.file_steps.specs.declared.fault.Fault.TheVariants as step_fault
+use Rattle.file_steps.proofs.WriteLemmas.{write_fails_then, writes_then}
+use Rattle.pair_core.specs.Pair.{Pair}
+use Rattle.replay_log.specs.declared.lines.Line.{Line}
+use Rattle.colo_top.specs.Command.{named_outputs}
 use Rattle.colo_top.specs.Files.{AppendsPart, empty_files, file_name, HasFile, HasFiles, KeepsFiles, KeepsOrEmpties, WriteFailed, WritesOnly}
 use Rattle.colo_top.specs.Loading.{IsLoaded, LoadFails}
 use Rattle.colo_top.specs.OneFile.{FileCutOff, FileFails, HasFront, HasOneFile}
 use Rattle.colo_top.specs.Outcome.{Completes, FailsBy, HasImage, IsUntouched, bytes_line}
-use Rattle.colo_top.specs.Replay.{IsCutOff, Prepared, ReplayCutOff, RunDone}
-use Rattle.colo_top.specs.RunSteps.{FailsTest, PreparedFails}
-use Rattle.colo_top.specs.Schedule.{IsTurnSchedule}
+use Rattle.colo_top.specs.Replay.{IsCutOff, Prepared, ReplayCutOff, pair_with}
+use Rattle.colo_top.specs.Refusing.{FailsTest}
+use Rattle.colo_top.specs.Writing.{LinesFail, RunsLines, writing_fault}
 use Rattle.colo_top.specs.Splice.{HasLog, SpliceCutOff, spliced_text, turns_line}
 use Rattle.colo_top.specs.Status.{read_fault, write_fault}
 use Rattle.colo_top.specs.Tests.{TestLog, TestSchedule}
@@ -29,6 +34,7 @@ use Rattle.colo_top.specs.Words.{RunWords, replay_command, SpliceWords, splice_c
 use Rattle.colo_top.proofs.CommandLemmas.{completes, fails_to_write, kept_from, runs_out}
 use Rattle.colo_top.proofs.FileLemmas.{failed_from}
 use Rattle.colo_top.proofs.LoadLemmas.{lines_fail, load_fails, started}
+use Rattle.colo_top.proofs.WritingLemmas.{AreFileSteps, done_no_failure, done_writes_only, is_of_writing, replay_on_files, untouched_writes, write_cut, write_failed, writes_only_where_cut}
 
 -- ---- a replay
 
@@ -44,43 +50,66 @@ pub replay_lines_fail : (c : RunWords) (old mid : ShelfState) (machine : Meaning
 replay_lines_fail c old mid =
     lines_fail (replay_command c) c TestSchedule old mid refl (λ texts found read test. (texts, read, test))
 
-module _ (c : RunWords) (old mid : ShelfState) (machine : Meaning) (frames : List (List ℕ)) (lines : List ℕ)
-    (loaded : IsLoaded c old mid machine frames lines) (turns : List Turn) (schedule : IsTurnSchedule turns lines)
-    (new : ShelfState) (change : WritesOnly c.out replay_outputs mid new) where
+module _ (c : RunWords) (old mid : ShelfState) (machine : Meaning) (frames : List (List ℕ)) (text : List ℕ)
+    (loaded : IsLoaded c old mid machine frames text) (lines : List Line) (schedule : IsSchedule lines text) where
   abbrev prepared : Prepared c old
   prepared = record {
-    start = started c old mid machine frames lines loaded;
-    turns = turns;
-    schedule = subst (IsTurnSchedule turns) (sym loaded.lines_are) schedule;
+    start = started c old mid machine frames text loaded;
+    lines = lines;
+    schedule = subst (IsSchedule lines) (sym loaded.lines_are) schedule;
   }
 
-  cut_off : IsCutOff mid new c.out machine frames turns → ReplayCutOff c old new
-  cut_off (inl created) = record {
-    prepared = prepared;
-    run = inl (kept_from c.out old mid new loaded.untouched.files replay_outputs created);
-  }
-  cut_off (inr cut) = record { prepared = prepared; run = inr cut }
+  abbrev plan : List Step
+  plan = replay_steps (pair_with machine frames) lines
 
-  run_failed : (fault : Fault) → PreparedFails mid new c.out machine frames turns fault
-      → FailsBy (replay_command c) old new fault
-  run_failed Usage fails = fails
-  run_failed (Refused refusal) fails = absurd fails
-  run_failed Read fails = absurd fails
-  run_failed Write fails =
-      fails_to_write (replay_command c) old mid new loaded.untouched change fails.0 (cut_off fails.1)
-  run_failed NoMemory fails = runs_out (replay_command c) old mid new loaded.untouched change (cut_off fails)
+  on_files : AreFileSteps plan
+  on_files = replay_on_files (pair_with machine frames) lines
 
-  pub replay_done : (r : Result (String Global) Fault)
-      → IfOk r (λ line. RunDone new c.out machine frames turns (string_bytes line)) → OnOk r (NoWriteFailed mid new)
-      → IfOk r (λ line. Completes (replay_command c) old new (string_bytes line))
-  replay_done (Ok line) run none = completes (replay_command c) old mid new loaded.untouched change (string_bytes line)
-      (record { prepared = prepared; run = run }) none
-  replay_done (Err fault) run none = tt
+  before : Writes c.out [] old mid
+  before = untouched_writes c.out old mid loaded.untouched
 
-  pub replay_fails : (r : Result (String Global) Fault) → IfErr r (PreparedFails mid new c.out machine frames turns)
-      → IfErr r (FailsBy (replay_command c) old new)
-  replay_fails (Ok line) fails = tt
-  replay_fails (Err fault) fails = run_failed fault fails
+  -- memory was refused before any file was created
+  pub replay_unmade : FailsBy (replay_command c) old mid NoMemory
+  replay_unmade = record { files = inl loaded.untouched.files }
+
+  pub replay_done : (new : ShelfState) (line : List ℕ) → line ≡ summary_line (events (pair_with machine frames) lines)
+      → Writes c.out plan mid new → Completes (replay_command c) old new line
+  replay_done new line said written =
+      completes (replay_command c) old mid new loaded.untouched
+      (done_writes_only c.out plan on_files mid new written) line
+      (record { prepared = prepared; written = writes_then c.out [] plan old mid new before written; said = said })
+      (done_no_failure c.out plan on_files mid new written)
+
+  cut_off : (new : ShelfState) → IsCutOff c.out plan old new → ReplayCutOff c old new
+  cut_off new cut = record { prepared = prepared; cut = cut }
+
+  pub replay_fails : (new : ShelfState) (fault : step.Fault) → FailsToWrite c.out plan mid new fault
+      → FailsBy (replay_command c) old new (writing_fault fault)
+  replay_fails new step_fault.Usage fails = absurd (is_of_writing c.out plan on_files mid new step_fault.Usage fails)
+  replay_fails new (step_fault.Refused refusal) fails =
+      absurd (is_of_writing c.out plan on_files mid new (step_fault.Refused refusal) fails)
+  replay_fails new step_fault.Read fails = absurd (is_of_writing c.out plan on_files mid new step_fault.Read fails)
+  replay_fails new step_fault.Write fails =
+      let from = write_fails_then c.out [] plan old mid new step_fault.Write before fails in
+      fails_to_write (replay_command c) old mid new loaded.untouched
+      (writes_only_where_cut c.out plan on_files mid new (write_cut c.out plan on_files mid new fails))
+      (write_failed c.out plan on_files mid new fails) (cut_off new (write_cut c.out plan on_files old new from))
+  replay_fails new step_fault.NoMemory fails =
+      runs_out (replay_command c) old mid new loaded.untouched
+      (writes_only_where_cut c.out plan on_files mid new fails)
+      (cut_off new (write_fails_then c.out [] plan old mid new step_fault.NoMemory before fails))
+
+  pub replay_runs : (pair : Pair) → pair ≡ pair_with machine frames → (new : ShelfState) (line : List ℕ)
+      → RunsLines pair lines c.out mid new line → Completes (replay_command c) old new line
+  replay_runs pair same new line runs =
+      let r = subst (λ (p : Pair). RunsLines p lines c.out mid new line) same runs in
+      replay_done new line r.said r.written
+
+  pub replay_cut : (pair : Pair) → pair ≡ pair_with machine frames → (new : ShelfState) (fault : Fault)
+      → LinesFail pair lines c.out mid new fault → FailsBy (replay_command c) old new fault
+  replay_cut pair same new fault cut =
+      let r = subst (λ (p : Pair). LinesFail p lines c.out mid new fault) same cut in
+      subst (FailsBy (replay_command c) old new) (sym r.is_cause) (replay_fails new r.cause r.cut)
 
 -- ---- one file
 

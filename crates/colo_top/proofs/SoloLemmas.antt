@@ -29,7 +29,7 @@ use Rattle.colo_top.specs.Files.{Appends, AppendsPart, empty_files, HasFiles, Ke
 use Rattle.colo_top.specs.Loading.{IsLoaded, LoadFails}
 use Rattle.colo_top.specs.MachineRun.{disk_bytes, machine_run, memory_bytes, start_of}
 use Rattle.colo_top.specs.Outcome.{Completes, FailsBy}
-use Rattle.colo_top.specs.RunSteps.{FailsTest}
+use Rattle.colo_top.specs.Refusing.{FailsTest}
 use Rattle.colo_top.specs.Solo.{IsCutOff, LeftPart, SingleCutOff, SingleDone, SoloCutOff, SoloPrepared, made_line, solo_files}
 use Rattle.colo_top.specs.SoloSteps.{IsLeft, MakingFails, SingleFails}
 use Rattle.colo_top.specs.Status.{write_fault}

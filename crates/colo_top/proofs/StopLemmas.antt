@@ -59,8 +59,8 @@ same_state o s t p q = cc
 abbrev state_from : ℕ → List ℕ → List (List ℕ) → Option State
 state_from mib image sectors = boot_state mib image (record { mine = sectors })
 
-booted_once : (mib : ℕ) (image disk : List ℕ) (a b : Meaning) → IsBooted mib image disk a → IsBooted mib image disk b
-    → a ≡ b
+pub booted_once : (mib : ℕ) (image disk : List ℕ) (a b : Meaning) → IsBooted mib image disk a
+    → IsBooted mib image disk b → a ≡ b
 booted_once mib image disk a b p q =
     let same = sectors_once p.sectors q.sectors (p.sectors_are.join ∙ sym q.sectors_are.join) p.sectors_are.sizes
     q.sectors_are.sizes in

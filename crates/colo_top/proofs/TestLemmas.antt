@@ -10,18 +10,15 @@ use Rattle.replay_log.specs.declared.items.Item.TheVariants as item
 use Rattle.replay_log.specs.declared.lines.Line.{Line}
 use Rattle.replay_log.specs.declared.records.Record.{Record}
 use Rattle.replay_log.specs.declared.turns.Turn.{Turn as SingleTurn}
-use Rattle.replay_log.proofs.LawLemmas.{one_schedule}
 use Rattle.replay_log.proofs.TextLemmas.{none_bad}
 use Rattle.sock_link.specs.Stream.{IsSplit}
 use Rattle.sock_link.proofs.StreamLemmas.{split_once}
 use Rattle.colo_top.specs.declared.fault.Fault.{Fault}
 use Rattle.colo_top.specs.declared.fault.Fault.TheVariants.{Usage, Refused, Read, Write, NoMemory}
 use Rattle.colo_top.specs.declared.fault.Refusal.{Refusal}
-use Rattle.colo_top.specs.declared.fault.Refusal.TheVariants.{BadImage, BadLine, NotBuilt}
-use Rattle.colo_top.specs.declared.schedule.Turn.{Turn}
+use Rattle.colo_top.specs.declared.fault.Refusal.TheVariants.{BadImage, BadLine}
 use Rattle.colo_top.specs.Reading.{Texts}
-use Rattle.colo_top.specs.RunSteps.{FailsTest}
-use Rattle.colo_top.specs.Schedule.{IsTurnSchedule, line_of}
+use Rattle.colo_top.specs.Refusing.{FailsTest}
 use Rattle.colo_top.specs.Tests.{Finds, Then, TestImage, TestDisk, rest_fault, TestClient, FindsBadLine, TestSchedule, TestLog, TestSingle, TestMachine, TestRun, TestStart}
 
 -- ---- one thing
@@ -33,7 +30,7 @@ pub some_none : (refusal : Refusal) → Some refusal ≡ None → ⊥
 some_none refusal e = cc
 
 pub one_refusal : (a b : Refusal) → Some a ≡ Some b → a ≡ b
-one_refusal a b e = ap (λ o. unwrap_or o NotBuilt) e
+one_refusal a b e = ap (λ o. unwrap_or o (BadLine 0)) e
 
 then_one : (first second : Finds) → One first → One second → One (Then first second)
 then_one first second f s a b (inl (x, fx, ea)) (inl (y, fy, eb)) = ea ∙ (f (Some x) (Some y) fx fy ∙ sym eb)
@@ -78,18 +75,9 @@ no_bad_single text turns a good bad =
 
 pub one_schedule_test : (text : List ℕ) → One (TestSchedule text)
 one_schedule_test text a b (inl p) (inl q) = same_bad (first_bad schedule_forms text) a b p q
-one_schedule_test text a b (inl p) (inr (inl (lines, good, other, eb))) = absurd (no_bad_schedule text lines a good p)
-one_schedule_test text a b (inl p) (inr (inr (turns, good, eb))) =
-    absurd (no_bad_schedule text (map line_of turns) a good p)
-one_schedule_test text a b (inr (inl (lines, good, other, ea))) (inl q) = absurd (no_bad_schedule text lines b good q)
-one_schedule_test text a b (inr (inl (lines, good, other, ea))) (inr (inl (more, fine, others, eb))) = ea ∙ sym eb
-one_schedule_test text a b (inr (inl (lines, good, other, ea))) (inr (inr (turns, fine, eb))) =
-    absurd (other turns (one_schedule text (map line_of turns) lines fine good))
-one_schedule_test text a b (inr (inr (turns, good, ea))) (inl q) =
-    absurd (no_bad_schedule text (map line_of turns) b good q)
-one_schedule_test text a b (inr (inr (turns, good, ea))) (inr (inl (lines, fine, other, eb))) =
-    absurd (other turns (one_schedule text (map line_of turns) lines good fine))
-one_schedule_test text a b (inr (inr (turns, good, ea))) (inr (inr (more, fine, eb))) = ea ∙ sym eb
+one_schedule_test text a b (inl p) (inr (lines, good, eb)) = absurd (no_bad_schedule text lines a good p)
+one_schedule_test text a b (inr (lines, good, ea)) (inl q) = absurd (no_bad_schedule text lines b good q)
+one_schedule_test text a b (inr (lines, good, ea)) (inr (more, fine, eb)) = ea ∙ sym eb
 
 pub one_log_test : (text : List ℕ) → One (TestLog text)
 one_log_test text a b (inl p) (inl q) = same_bad (first_bad log_forms text) a b p q
@@ -137,8 +125,8 @@ disk_none disk e = rw e refl
 pub client_none : (client : List ℕ) (frames : List (List ℕ)) → IsSplit client frames [] → TestClient client None
 client_none client frames split = (frames, [], split, refl)
 
-pub schedule_none : (text : List ℕ) (turns : List Turn) → IsTurnSchedule turns text → TestSchedule text None
-schedule_none text turns good = inr (inr (turns, good, refl))
+pub schedule_none : (text : List ℕ) (lines : List Line) → IsSchedule lines text → TestSchedule text None
+schedule_none text lines good = inr (lines, good, refl)
 
 pub single_none : (text : List ℕ) (turns : List SingleTurn) → IsSingle turns text → TestSingle text None
 single_none text turns good = inr (turns, good, refl)

@@ -31,3 +31,9 @@ LoadFails c old new Read =
     FetchFailed (run_reads c) old new × KeepsFiles old new × NoWriteFailed old new
 LoadFails c old new Write = ⊥
 LoadFails c old new NoMemory = KeepsFiles old new
+
+-- so it is for every shelf from which this was loaded
+abbrev pub FromLoaded : RunWords → ShelfState → Meaning → List (List ℕ) → List ℕ
+    → (ShelfState → Type 0) → Type 0
+FromLoaded c mid machine frames lines P =
+    (before : ShelfState) → IsLoaded c before mid machine frames lines → P before

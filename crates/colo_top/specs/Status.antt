@@ -6,7 +6,7 @@ use Rattle.shared_definitions.specs.Ascii.{newline}
 use Rattle.colo_top.specs.declared.fault.Fault.{Fault}
 use Rattle.colo_top.specs.declared.fault.Fault.TheVariants.{Usage, Refused, Read, Write, NoMemory}
 use Rattle.colo_top.specs.declared.fault.Refusal.{Refusal}
-use Rattle.colo_top.specs.declared.fault.Refusal.TheVariants.{BadImage, BadDisk, BadLine, BadClient, NotBuilt}
+use Rattle.colo_top.specs.declared.fault.Refusal.TheVariants.{BadImage, BadDisk, BadLine, BadClient}
 
 -- the status of each refusal, and of each fault
 abbrev pub refusal_status : Refusal → ℕ
@@ -14,7 +14,6 @@ refusal_status (BadImage number) = 2
 refusal_status (BadDisk size) = 3
 refusal_status (BadLine number) = 4
 refusal_status (BadClient place) = 5
-refusal_status NotBuilt = 9
 
 abbrev pub status : Fault → ℕ
 status Usage = 1
@@ -33,7 +32,6 @@ refusal_line (BadImage number) = numbered (codes "image: ") number
 refusal_line (BadDisk size) = numbered (codes "disk: ") size
 refusal_line (BadLine number) = numbered (codes "line ") number
 refusal_line (BadClient place) = numbered (codes "client: ") place
-refusal_line NotBuilt = codes "not built\n"
 
 abbrev pub line : Fault → List ℕ
 line Usage = codes "usage\n"

@@ -1,5 +1,5 @@
 -- The tests of what a command reads, in order: the first that finds something refuses it.
-use Rattle.std.specs.Prelude.{◌≡◌, ◌≢◌, ℕ, List, [], ◌∷◌, Option, Some, None, IsSomeAnd, length, map, option_map, if◌then◌else◌, ◌⊎◌}
+use Rattle.std.specs.Prelude.{◌≡◌, ℕ, List, [], ◌∷◌, Option, Some, None, IsSomeAnd, length, option_map, if◌then◌else◌, ◌⊎◌}
 use Rattle.disk_buffers.specs.Sectors.{is_length}
 use Rattle.elf_load.specs.Boot.{elf_case}
 use Rattle.guest_machine.specs.Boot.{ram_size}
@@ -12,10 +12,8 @@ use Rattle.replay_log.specs.declared.records.Record.{Record}
 use Rattle.replay_log.specs.declared.turns.Turn.{Turn as SingleTurn}
 use Rattle.sock_link.specs.Stream.{IsSplit, stream_of}
 use Rattle.colo_top.specs.declared.fault.Refusal.{Refusal}
-use Rattle.colo_top.specs.declared.fault.Refusal.TheVariants.{BadImage, BadDisk, BadLine, BadClient, NotBuilt}
-use Rattle.colo_top.specs.declared.schedule.Turn.{Turn}
+use Rattle.colo_top.specs.declared.fault.Refusal.TheVariants.{BadImage, BadDisk, BadLine, BadClient}
 use Rattle.colo_top.specs.Reading.{Texts}
-use Rattle.colo_top.specs.Schedule.{IsTurnSchedule, line_of}
 
 -- a test finds a refusal, or nothing
 abbrev pub Finds : Type 1
@@ -51,13 +49,11 @@ abbrev pub FindsBadLine : List Form → List ℕ → Finds
 FindsBadLine forms text found =
     IsSomeAnd (first_bad forms text) (λ bad. found ≡ Some (BadLine bad.line))
 
--- a schedule: its first bad line; else whether it has a line that isn't a turn of the primary
+-- a schedule: its first bad line
 abbrev pub TestSchedule : List ℕ → Finds
 TestSchedule text found =
     FindsBadLine schedule_forms text found
-    ⊎ (((lines : List Line) × IsSchedule lines text
-    × ((turns : List Turn) → map line_of turns ≢ lines) × (found ≡ Some NotBuilt))
-    ⊎ ((turns : List Turn) × IsTurnSchedule turns text × (found ≡ None)))
+    ⊎ ((lines : List Line) × IsSchedule lines text × (found ≡ None))
 
 -- a log: its first bad line
 abbrev pub TestLog : List ℕ → Finds

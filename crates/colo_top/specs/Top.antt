@@ -7,7 +7,7 @@ use Rattle.colo_base.specs.Shelf.{ShelfState, ChangesOnly}
 use Rattle.colo_base.specs.Sink.{SinkState, Puts, PutsPart, SinkGoesOn}
 use Rattle.colo_top.specs.declared.fault.Fault.TheVariants.{Usage, Read, Write, NoMemory}
 use Rattle.colo_top.specs.declared.fault.Refusal.{Refusal}
-use Rattle.colo_top.specs.declared.fault.Refusal.TheVariants.{BadImage, BadDisk, BadLine, BadClient, NotBuilt}
+use Rattle.colo_top.specs.declared.fault.Refusal.TheVariants.{BadImage, BadDisk, BadLine, BadClient}
 use Rattle.colo_top.specs.Command.{reads, out_of, outputs_of, is_online}
 use Rattle.colo_top.specs.Files.{IsFileOf, WriteFailed}
 use Rattle.colo_top.specs.Outcome.{IsUntouched, FailsTests, FailsInRun, FailsToRead, FailsToWrite, RunsOutOfMemory, Completes, Judges, Stops}
@@ -52,7 +52,7 @@ pub record NoCommand (call : Call) : Type 0 where
   pub files : IsUntouched call.before.shelf call.after.shelf
   pub put : Prints call.before.sink call.after.sink (line Usage)
 
--- 2, 3, 4, 5 and 9: a test refuses what the command reads, before any file is created
+-- 2, 3, 4 and 5: a test refuses what the command reads, before any file is created
 pub record IsRefused (call : Call) (refusal : Refusal) (command : Command) : Type 0 where
   pub work : FailsTests command call.before.shelf call.after.shelf refusal
   pub put : Prints call.before.sink call.after.sink (refusal_line refusal)
@@ -98,8 +98,7 @@ Means call status =
     (MatchBool (status == 5) ((place : ℕ) × EndsBy call (BadClient place))
     (MatchBool (status == 6) (OfCommand call (ReadFailed call))
     (MatchBool (status == 7) (OfCommand call (OutputFailed call) ⊎ OfCommand call (LineFailed call))
-    (MatchBool (status == 8) (OfCommand call (OutOfMemory call))
-    (MatchBool (status == 9) (EndsBy call NotBuilt) ⊥)))))))))
+    (MatchBool (status == 8) (OfCommand call (OutOfMemory call)) ⊥))))))))
 
 -- ---- when each status comes, where contents can be observed
 
@@ -155,7 +154,7 @@ pub record Ends (call : Call) : Type 0 where
   pub finds_no_command : read_words call.words ≡ None → call.status ≡ 1
   -- 6 comes where a file that is to be read is missing
   pub finds_missing : Gives call (λ command. IsMissing call.before.shelf (reads command)) OnMissing
-  -- 2, 3, 4, 5 and 9 come where a test finds their refusal, or it stops the run
+  -- 2, 3, 4 and 5 come where a test finds their refusal, or it stops the run
   pub finds_refusal : (refusal : Refusal) → Gives call
       (λ command. Judges command call.before.shelf (Some refusal)) (OnRefusal refusal)
   pub finds_stop : (refusal : Refusal) → Gives call

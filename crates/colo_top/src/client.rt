@@ -3,7 +3,7 @@
 ghost use Rattle.std.specs.Prelude.{◌≡◌, [], Some, IfOk, IfErr, IsTrue};
 ghost use Rattle.sock_link.specs.Stream.{IsSplit};
 ghost use Rattle.sock_link.specs.Unframed.{Stands};
-ghost use Rattle.colo_top.specs.RunSteps.{FailsTest};
+ghost use Rattle.colo_top.specs.Refusing.{FailsTest};
 ghost use Rattle.colo_top.specs.Tests.{TestClient};
 
 use crate::fault::{Fault, Refusal};

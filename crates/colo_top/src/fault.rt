@@ -20,8 +20,6 @@ pub enum Refusal {
     BadLine(u64),
     /// The client stream breaks off in the record that begins at this byte.
     BadClient(u64),
-    /// Something isn't built yet.
-    NotBuilt,
 }
 
 /// Why a command ends with another status than 0.
@@ -104,7 +102,6 @@ impl Refusal {
             Refusal::BadDisk(_) => 3,
             Refusal::BadLine(_) => 4,
             Refusal::BadClient(_) => 5,
-            Refusal::NotBuilt => 9,
         }
     }
 
@@ -121,7 +118,6 @@ impl Refusal {
             Refusal::BadDisk(length) => put_numbered(out, "disk: ", length),
             Refusal::BadLine(number) => put_numbered(out, "line ", number),
             Refusal::BadClient(place) => put_numbered(out, "client: ", place),
-            Refusal::NotBuilt => put_text(out, "not built\n"),
         }
     }
 }

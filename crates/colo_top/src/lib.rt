@@ -4,7 +4,6 @@
 mod client;
 mod fault;
 mod input;
-mod log;
 mod one_file;
 mod output;
 mod parts;

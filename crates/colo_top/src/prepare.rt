@@ -9,7 +9,7 @@ ghost use Rattle.colo_top.specs.Loading.{IsLoaded, LoadFails};
 ghost use Rattle.colo_top.specs.MachineRun.{IsBooted};
 ghost use Rattle.colo_top.specs.ReadBytes.{texts_of};
 ghost use Rattle.colo_top.specs.Replay.{IsReady};
-ghost use Rattle.colo_top.specs.RunSteps.{FailsTest};
+ghost use Rattle.colo_top.specs.Refusing.{FailsTest};
 ghost use Rattle.colo_top.specs.Tests.{TestImage, TestMachine, TestStart};
 
 use crate::client::read_client;
@@ -20,6 +20,7 @@ use colo_base::{Frames, Shelf};
 use disk_buffers::{DiskFault, WholeDisk};
 use elf_load::load;
 use guest_machine::{BootFault, Machine};
+use state_wire::Guest;
 use std::alloc::Global;
 
 /// The bytes of a MiB.
@@ -36,6 +37,16 @@ struct Started {
 #[derive(Drop)]
 pub struct Loaded {
     pub machine: Machine<WholeDisk>,
+    pub frames: Frames,
+    pub lines: Vec<u8>,
+}
+
+/// Two guests that stand at the image's boot state, the client's frames, and the lines of the
+/// events.
+#[derive(Drop)]
+pub struct LoadedPair<G: Guest + Drop> {
+    pub first: G,
+    pub second: G,
     pub frames: Frames,
     pub lines: Vec<u8>,
 }
@@ -109,6 +120,36 @@ pub fn load_run<S: Shelf>(alloc: Global, shelf: &mut S, words: &Run<'_>) -> Resu
     let Inputs { lines, .. } = inputs;
     Ok(Loaded {
         machine,
+        frames,
+        lines,
+    })
+}
+
+/// The same with two machines, in one state.
+pub fn load_pair<S: Shelf>(
+    alloc: Global,
+    shelf: &mut S,
+    words: &Run<'_>,
+) -> Result<LoadedPair<Machine<WholeDisk>>, Fault>
+    requires { HasRam words.now }
+    ensures loaded { IfOk result (λ loaded. IsLoaded (run_of words.now) (S.state shelf.old)
+        (S.state shelf.new) (machine_meaning loaded.first) loaded.frames loaded.lines.items) }
+    ensures same { IfOk result (λ loaded. machine_meaning loaded.second
+        ≡ machine_meaning loaded.first) }
+    ensures fails { IfErr result (LoadFails (run_of words.now) (S.state shelf.old)
+        (S.state shelf.new)) }
+{
+    let inputs = match read_all(alloc, shelf, words) {
+        Ok(inputs) => inputs,
+        Err(fault) => return Err(read_fault(fault)),
+    };
+    let started = start(alloc, words.mib, &inputs)?;
+    let second = boot(alloc, words.mib, &inputs.image, &inputs.disk)?;
+    let Started { machine, frames } = started;
+    let Inputs { lines, .. } = inputs;
+    Ok(LoadedPair {
+        first: machine,
+        second,
         frames,
         lines,
     })

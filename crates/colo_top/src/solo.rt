@@ -5,7 +5,7 @@ ghost use Rattle.replay_log.specs.Texts.{IsSingle};
 ghost use Rattle.splice_run.specs.Solo.{IsInLimits};
 ghost use Rattle.colo_top.specs.Command.{HasRam, run_of};
 ghost use Rattle.colo_top.specs.Outcome.{Completes, FailsBy};
-ghost use Rattle.colo_top.specs.RunSteps.{FailsTest};
+ghost use Rattle.colo_top.specs.Refusing.{FailsTest};
 ghost use Rattle.colo_top.specs.Tests.{TestSingle};
 ghost use Rattle.colo_top.specs.Words.{solo_command};
 

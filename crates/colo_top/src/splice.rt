@@ -5,7 +5,7 @@ ghost use Rattle.replay_log.specs.Texts.{IsLog};
 ghost use Rattle.splice_run.specs.Single.{single_run};
 ghost use Rattle.colo_top.specs.Command.{splice_of};
 ghost use Rattle.colo_top.specs.Outcome.{Completes, FailsBy};
-ghost use Rattle.colo_top.specs.RunSteps.{FailsTest};
+ghost use Rattle.colo_top.specs.Refusing.{FailsTest};
 ghost use Rattle.colo_top.specs.Splice.{single_text, turns_line};
 ghost use Rattle.colo_top.specs.Tests.{TestLog};
 ghost use Rattle.colo_top.specs.Words.{splice_command};

@@ -21,9 +21,9 @@ use std::alloc::Global;
 ///
 /// `words` are those after the program's name.
 ///
-/// - `replay IMAGE DISK CLIENT SCHEDULE OUT` boots the ELF file IMAGE with the disk DISK, runs the
-///   primary turns of SCHEDULE, and writes `OUT.log`, `OUT.released`, `OUT.wire`, `OUT.ram` and
-///   `OUT.disk`.
+/// - `replay IMAGE DISK CLIENT SCHEDULE OUT` boots two machines from the ELF file IMAGE with the
+///   disk DISK, runs them as a pair by the lines of SCHEDULE with the frames of CLIENT, and writes
+///   `OUT.log`, `OUT.released`, `OUT.wire`, and the survivor's `OUT.ram` and `OUT.disk`.
 /// - `solo IMAGE DISK CLIENT SINGLE OUT` boots the same machine, makes the turns of the single run
 ///   SINGLE with the frames of CLIENT that they name, and writes `OUT.sent`, `OUT.ram` and
 ///   `OUT.disk`.
@@ -42,11 +42,10 @@ use std::alloc::Global;
 /// | 6 | only where fetching a file failed | `read failed` |
 /// | 7 | only where creating or appending to a file failed, or putting the summary | `write failed` |
 /// | 8 | where an allocation was refused | `no memory` |
-/// | 9 | where the schedule is good and has a line that isn't a turn of the primary | `not built` |
 ///
 /// Options follow the other words: `--ram N` for N MiB of memory, 1 to 64, in the place of 16.
 ///
-/// The tests stand in the order 1, 6, 2, 3, 5, 4, 9. Before the files are created nothing changes.
+/// The tests stand in the order 1, 6, 2, 3, 5, 4. Before the files are created nothing changes.
 /// A turn of `solo` without its frame comes afterwards, and leaves them empty.
 /// A put that fails is the last. Only a command that is online uses the link and the clock, and
 /// there is none yet.

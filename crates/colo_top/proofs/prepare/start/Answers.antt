@@ -4,7 +4,7 @@ use Rattle.std.proofs.lemmas.Result.{err_from_is_err_and}
 use Rattle.guest_machine.specs.Guest.{machine_meaning}
 use Rattle.colo_top.specs.MachineRun.{IsBooted}
 use Rattle.colo_top.specs.ReadBytes.{texts_of}
-use Rattle.colo_top.specs.RunSteps.{FailsTest}
+use Rattle.colo_top.specs.Refusing.{FailsTest}
 use Rattle.colo_top.specs.Tests.{TestClient, TestMachine}
 use Rattle.colo_top.proofs.BootLemmas.{machine_none}
 use Rattle.colo_top.proofs.TestLemmas.{fails_second}

@@ -6,7 +6,7 @@ use Rattle.guest_machine.specs.Guest.{machine_meaning}
 use Rattle.replay_log.specs.Texts.{IsSingle}
 use Rattle.replay_log.specs.declared.turns.Turn.{Turn}
 use Rattle.colo_top.specs.Command.{run_of}
-use Rattle.colo_top.specs.RunSteps.{FailsTest}
+use Rattle.colo_top.specs.Refusing.{FailsTest}
 use Rattle.colo_top.specs.Tests.{TestSingle}
 use Rattle.colo_top.proofs.SoloLemmas.{solo_done, solo_fails, solo_lines_fail, solo_load_fails}
 use Rattle.colo_top.proofs.solo.solo.Goals as goal
