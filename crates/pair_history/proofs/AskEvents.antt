@@ -1,11 +1,9 @@
 -- A checkpoint that is asked for.
-use Rattle.std.proofs.Common.{◌≡◌, ℕ, ◌+◌, ◌%◌, ◌^◌, ◌||◌, Bool, true, false, List, [], ◌∷◌, Option, None, Some, is_some, refl, sym, ap, subst, ◌∙◌, true≢false}
+use Rattle.std.proofs.Common.{◌≡◌, ℕ, ◌||◌, Bool, true, false, List, Option, None, Some, is_some, refl, sym, ap, subst, ◌∙◌, true≢false}
 use Rattle.std.specs.Prelude.{if◌then◌else◌}
 use Rattle.std.proofs.Math.Bool.{or-false}
-use Rattle.colo_base.specs.declared.fault.Cause.TheVariants.{Asked}
 use Rattle.replay_log.specs.declared.lines.Line.TheVariants.{Ask}
 use Rattle.replay_log.specs.declared.records.Answer.TheVariants.{Nothing}
-use Rattle.replay_log.specs.declared.records.Mark.TheVariants.{Captured}
 use Rattle.state_wire.specs.Guest.{Kind}
 use Rattle.node_primary.specs.Steps.{capture as capture_primary}
 use Rattle.pair_core.specs.Events as core

@@ -1,4 +1,4 @@
--- A capture: the primary puts the theorem's checkpoint on the link, each message of it is due, and its End commits the copy.
+-- A capture: the primary puts the theorem's checkpoint on the link, each message of it is due, and its End commits it.
 use Rattle.std.proofs.Common.{◌≡◌, ℕ, ◌+◌, ◌%◌, ◌^◌, Bool, true, false, cond, List, [], ◌∷◌, ◌++◌, fold, length, Option, None, Some, is_some, refl, sym, ap, subst, ◌∙◌, true≢false}
 use Rattle.std.specs.Map.{lookup}
 use Rattle.std.specs.Option.{option_map}
@@ -9,14 +9,11 @@ use Rattle.tcp_track.specs.Lines.{Item, commit}
 use Rattle.tcp_track.specs.Stands.{is_of_client}
 use Rattle.tcp_track.specs.Tracking.{Tracking, committed, current_at, nothing_tracked, same_incarnation, taken, trimmed}
 use Rattle.tcp_track.specs.declared.openings.Incarnation.{Incarnation}
-use Rattle.tcp_track.specs.declared.openings.Opening.{Opening}
-use Rattle.seq_rewriter.specs.Kept.{KeptNumbers, is_current, number_of}
+use Rattle.seq_rewriter.specs.Kept.{is_current, number_of}
 use Rattle.settle_rules.specs.Numbers.{KeptNumber, kept_number, thin}
 use Rattle.state_wire.specs.Guest.{Kind, Meaning}
-use Rattle.node_parts.specs.Counts.{HasCounts}
 use Rattle.colo_wire.specs.declared.messages.Message.{Message}
 use Rattle.colo_wire.specs.declared.messages.Message.TheVariants.{End}
-use Rattle.kept_checkpoint.specs.Kept.{Kept, kept_lines, load_kept}
 use Rattle.out_compare.specs.Comparing.{Comparing}
 use Rattle.out_compare.specs.Comparing.{capture as capture_tables}
 use Rattle.compare_laws.proofs.FindLemmas.{same_incarnation-eq}
@@ -51,9 +48,11 @@ use Rattle.pair_history.proofs.DueLemmas.{due_anew, due_whole}
 use Rattle.pair_history.proofs.Flags.{releases_reported}
 
 -- A TRACKER that stands for items can be captured
-capturable_from : (lines : Tracking) (calls : List Call) → AreCapturable lines → AreCapturable (fold call_after lines calls)
+capturable_from : (lines : Tracking) (calls : List Call) → AreCapturable lines
+    → AreCapturable (fold call_after lines calls)
 capturable_from lines [] h = h
-capturable_from lines (takes frame ∷ calls) h = capturable_from (taken lines frame) calls (takes_regularly lines frame h)
+capturable_from lines (takes frame ∷ calls) h =
+    capturable_from (taken lines frame) calls (takes_regularly lines frame h)
 capturable_from lines (trims t client to ∷ calls) h =
     capturable_from (trimmed lines t client to) calls (trims_regularly lines t client to h)
 capturable_from lines (commits ∷ calls) h = capturable_from (committed lines) calls (commits_regularly lines h)
@@ -128,8 +127,8 @@ captures_of kind stream past v h p fits sound =
       lines = lines;
       can = record { sizes = sound.sectors; accepted = p.accepted; room = p.room; lines = lines };
       of_kind = record {
-        accepts = subst (λ (k : Kind). k.accepts n.guest.state.bytes ≡ true) (ap (λ (g : Meaning). g.kind) h.first_guest)
-            sound.accepted;
+        accepts = subst (λ (k : Kind). k.accepts n.guest.state.bytes ≡ true)
+            (ap (λ (g : Meaning). g.kind) h.first_guest) sound.accepted;
         pages = ap (λ (g : Meaning). length g.state.pages) h.first_guest ∙ fits.fits.page_count;
         sectors = ap (λ (g : Meaning). length g.state.sectors) h.first_guest ∙ fits.fits.sector_count;
       };
@@ -157,7 +156,8 @@ captured_commits kind past x e h = record {
 }
 
 -- none of it is an End
-no_end : (past : Past) → has_end (checkpoint_messages past (thin past.primary.items past.numbers) (next_capture past)) ≡ false
+no_end : (past : Past)
+    → has_end (checkpoint_messages past (thin past.primary.items past.numbers) (next_capture past)) ≡ false
 unfolding checkpoint_messages copied_parts
 no_end past =
     parts_no_end (copied_parts (copy_after past) (next_capture past)) (parts_are (copy_after past) (next_capture past))
@@ -195,7 +195,8 @@ second_captured kind past (hears n) x together none c h = (
         ++ End (next_capture past) ∷ []) none (captured_due kind past x c) h.1.due;
   },
 )
-second_captured kind past (alone n) x together none c h = absurd (true≢false (sym (releases_reported past h.0) ∙ together))
+second_captured kind past (alone n) x together none c h =
+    absurd (true≢false (sym (releases_reported past h.0) ∙ together))
 
 -- THE PAIR after a capture
 pub captures_alike : (kind : Kind) (stream : List (List ℕ)) (past : Past) (v : Pair) → Stands kind stream past v

@@ -1,12 +1,11 @@
 -- A client's frame.
-use Rattle.std.proofs.Common.{◌≡◌, ◌≤◌, ◌<◌, ℕ, ◌+◌, ◌&&◌, not, Bool, true, false, nat_le, nat_lt, List, [], ◌∷◌, ◌++◌, append-nil, length, map, slice_get, option_to_list, Option, None, Some, is_some, refl, sym, ap, subst, ◌∙◌, arith, length-append, true≢false}
-use Rattle.std.specs.Prelude.{All, IsSome, if◌then◌else◌}
+use Rattle.std.proofs.Common.{◌≡◌, ◌≤◌, ℕ, not, Bool, true, false, nat_le, nat_lt, List, [], ◌∷◌, ◌++◌, append-nil, length, Option, None, Some, refl, sym, ap, subst, ◌∙◌, arith, length-append, true≢false}
+use Rattle.std.specs.Prelude.{IsSome, if◌then◌else◌}
 use Rattle.std.specs.List.{AllByRecursion}
-use Rattle.std.proofs.lemmas.Bool.{and_left, cond-false, cond-true}
+use Rattle.std.proofs.lemmas.Bool.{and_left}
 use Rattle.shared_definitions.specs.Bytes.{AreBytes}
 use Rattle.inet_frame.specs.Counted.{tcp_in}
 use Rattle.inet_frame.specs.Fields.{TcpFields}
-use Rattle.tcp_track.specs.declared.openings.Opening.{Opening}
 use Rattle.frame_mirror.specs.Accepted.{entry_of, is_accepted}
 use Rattle.frame_mirror.specs.Inboxes.{has_room}
 use Rattle.frame_mirror.specs.declared.ingress.Entry.{Entry}
@@ -14,7 +13,7 @@ use Rattle.frame_mirror.specs.declared.ingress.Entry.TheVariants as entry
 use Rattle.frame_mirror.specs.declared.ring.TheConstants.{INBOX_ROOM}
 use Rattle.frame_mirror.specs.declared.ring.Waiting.{Waiting}
 use Rattle.frame_mirror.proofs.AcceptLemmas.{accepted_is_segment, kept_is_accepted_as_it_is}
-use Rattle.settle_rules.specs.Release.{released_frame, reply}
+use Rattle.settle_rules.specs.Release.{released_frame}
 use Rattle.state_wire.specs.Guest.{Kind}
 use Rattle.colo_wire.specs.declared.answers.Gate.{Gate}
 use Rattle.colo_wire.specs.declared.answers.Gate.TheVariants as gate
@@ -23,30 +22,28 @@ use Rattle.replay_log.specs.declared.lines.Line.TheVariants.{Client}
 use Rattle.replay_log.specs.declared.records.Answer.TheVariants as answer
 use Rattle.node_release.specs.Gated.{Gated, gated, looked_by, refused, seen_by, taken_by, trim_by}
 use Rattle.node_primary.specs.Steps.{compares, frame_message, let_in, told, with_waiting}
-use Rattle.node_secondary.specs.Steps as secondary
-use Rattle.node_secondary.specs.Survivor.{Second, Survivor, alone, hears}
+use Rattle.node_secondary.specs.Survivor.{Second, alone, hears}
 use Rattle.out_compare.specs.Comparing.{Comparing}
-use Rattle.out_compare.specs.Look.{look, looked}
+use Rattle.out_compare.specs.Look.{looked}
 use Rattle.pair_core.specs.Events as core
 use Rattle.pair_core.specs.Events.{primary_takes, secondary_takes}
-use Rattle.pair_core.specs.Pair.{Pair, is_primary, is_secondary, sent_down}
+use Rattle.pair_core.specs.Pair.{Pair, is_primary, sent_down}
 use Rattle.pair_theorem.specs.ClientFrames.{trims_by}
-use Rattle.pair_theorem.specs.Events.{accept_by, client_entry, client_event, is_full, look_at, outcome_of, passed_frame, take_frame, taking_inbox, waiting_of}
+use Rattle.pair_theorem.specs.Events.{accept_by, client_entry, passed_frame, take_frame}
 use Rattle.pair_theorem.specs.LogParts.{delivered_bytes}
-use Rattle.pair_theorem.specs.Past.{Outcome, Past, is_primary_stop, quietly, secondary_releases, silently, step_with}
-use Rattle.pair_theorem.proofs.AllLemmas.{All_at}
+use Rattle.pair_theorem.specs.Past.{Past, is_primary_stop, secondary_releases, silently}
 use Rattle.settle_history.specs.Standing.{Books, StandsFor}
-use Rattle.compare_history.specs.Books.{primary_books, survivor_books}
+use Rattle.compare_history.specs.Books.{primary_books}
 use Rattle.compare_history.specs.Laws.{LooksWith, looked_frame}
 use Rattle.compare_history.proofs.EventLemmas as comparer
 use Rattle.pair_history.specs.Due.{Due}
-use Rattle.pair_history.specs.Standing.{PrimaryStands, SecondStands, Stands, SurvivorStands}
+use Rattle.pair_history.specs.Standing.{SecondStands, Stands}
 use Rattle.pair_history.proofs.DueLemmas.{due_behind, due_frame}
-use Rattle.pair_history.proofs.Flags.{primary_flag, releases_reported, releases_stopped}
-use Rattle.pair_history.proofs.Goes.{Goes, idle}
+use Rattle.pair_history.proofs.Flags.{primary_flag, releases_stopped}
+use Rattle.pair_history.proofs.Goes.{Goes}
 use Rattle.pair_history.proofs.SecondLemmas.{full_is}
 use Rattle.pair_history.proofs.TurnEvents.{told_link}
-use Rattle.pair_history.proofs.Written.{alone_pair, alone_pair_is, primary_pair, primary_pair_is}
+use Rattle.pair_history.proofs.Written.{primary_pair, primary_pair_is}
 
 abbrev before : Kind → List (List ℕ) → Past → Pair → Pair
 before kind stream past w = primary_pair kind stream past past.awaits_ack past.is_reported w
@@ -136,8 +133,8 @@ let_in_alike : (kind : Kind) (stream : List (List ℕ)) (past : Past) (w : Pair)
     → Stands kind stream past (before kind stream past w) → is_primary w.stopped ≡ false
     → has_room past.primary_inbox ≡ true → is_accepted x.frame ≡ true
     → StandsFor (primary_books (accept_by false past x (trims_by x))) c
-    → Goes kind stream (silently (accept_by false past x (trims_by x)) Client (answer.Accepted past.next x.seen x.trim 0)
-    None) (let_in_as (before kind stream past w) x c)
+    → Goes kind stream (silently (accept_by false past x (trims_by x)) Client
+    (answer.Accepted past.next x.seen x.trim 0) None) (let_in_as (before kind stream past w) x c)
 unfolding accept_by delivered_bytes
 let_in_alike kind stream past w x c h runs room clean compares states rests =
     let p = h.first runs in record {

@@ -21,7 +21,7 @@ use Rattle.replay_log.specs.declared.records.Mark.TheVariants.{Committed}
 use Rattle.node_secondary.specs.Answers as secondary
 use Rattle.node_secondary.specs.Hearing.{commit, commit_by, hear_due, is_due, is_due_at, next_checkpoint, told, told_of}
 use Rattle.node_secondary.specs.Node.{Node}
-use Rattle.node_secondary.specs.Survivor.{Second, alone, hears}
+use Rattle.node_secondary.specs.Survivor.{Second, hears}
 use Rattle.node_secondary.specs.declared.under_way.UnderWay.{UnderWay}
 use Rattle.node_secondary.specs.declared.under_way.UnderWay.TheVariants as heard
 use Rattle.pair_core.specs.Events as core
@@ -98,8 +98,8 @@ without kind stream past w n ms = record (hears_pair kind stream past n w) { dow
 -- what is due later, over the node that heard it
 due_later : (kind : Kind) (stream : List (List ℕ)) (past : Past) (w : Pair) (n : Node) (m : Message) (ms : List Message)
     → Finds kind stream past w n m ms
-    → Due kind past.copy past.captures (unwrap_or (commit_by m) n.committed) (hear_due (node_of kind past n) m).under_way
-    ms
+    → Due kind past.copy past.captures (unwrap_or (commit_by m) n.committed)
+    (hear_due (node_of kind past n) m).under_way ms
 due_later kind stream past w n m ms f =
     subst (λ (u : UnderWay). Due kind past.copy past.captures (unwrap_or (commit_by m) n.committed) u ms)
     (sym (goes_its_way (node_of kind past n) m)) f.later
@@ -226,7 +226,8 @@ apart_alike kind stream past w n m ms f e =
     let left : Node = record (node_of kind past n) { under_way = way kind n.under_way m } in
     subst (λ (x : Node). Goes kind stream o (heard_due (without kind stream past w n ms) (node_of kind past n) m x
     (told_of (node_of kind past n) m))) (sym a.left)
-    (subst (λ (x : Told). Goes kind stream o (heard_due (without kind stream past w n ms) (node_of kind past n) m left x))
+    (subst (λ (x : Told). Goes kind stream o
+    (heard_due (without kind stream past w n ms) (node_of kind past n) m left x))
     (sym a.told_is) (λ states rests. record {
       happens = record { answer = refl; marks = refl; released = refl; wire = refl };
       after = second_stands kind stream past (hears_pair kind stream past n w) left past.secondary past.secondary_inbox

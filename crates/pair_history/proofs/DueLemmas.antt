@@ -1,6 +1,5 @@
 -- What is put on the link to the secondary is due when it comes.
-use Rattle.std.proofs.Common.{◌≡◌, ℕ, Bool, true, false, ◌||◌, List, [], ◌∷◌, ◌++◌, map, fold, Option, None, Some, unwrap_or, refl, sym, ap, subst, ◌∙◌, true≢false}
-use Rattle.std.specs.List.{AllByRecursion}
+use Rattle.std.proofs.Common.{◌≡◌, ℕ, true, false, List, [], ◌∷◌, ◌++◌, map, fold, Option, None, unwrap_or, refl, sym, ap, subst, ◌∙◌, true≢false}
 use Rattle.std.proofs.lemmas.Bool.{or_parts}
 use Rattle.settle_rules.specs.Numbers.{KeptNumber}
 use Rattle.frame_mirror.specs.Accepted.{is_accepted}
@@ -9,13 +8,12 @@ use Rattle.state_wire.specs.Guest.{Kind}
 use Rattle.colo_wire.specs.declared.messages.Message.{Message}
 use Rattle.colo_wire.specs.declared.messages.Message.TheVariants.{Frame, Number, Begin, State, Page, Disk, Write, Held, Bytes, End, Known, Sent, Ack}
 use Rattle.colo_wire.specs.declared.messages.Message.TheVariants as message
-use Rattle.node_secondary.specs.Hearing.{commit_by, is_due_at, is_due_outside, next_checkpoint}
+use Rattle.node_secondary.specs.Hearing.{commit_by, is_due_at, next_checkpoint}
 use Rattle.node_secondary.specs.declared.under_way.UnderWay.{UnderWay}
 use Rattle.node_secondary.specs.declared.under_way.UnderWay.TheVariants.{Nothing, Begun, Heard}
 use Rattle.pair_theorem.specs.Events.{number_message}
 use Rattle.pair_theorem.specs.Past.{Copy}
 use Rattle.capture_laws.specs.Ways.{AreDue, way}
-use Rattle.theorem_runs.specs.Links.{IsBeside}
 use Rattle.theorem_runs.specs.Runs.{has_end, is_end}
 use Rattle.pair_history.specs.Due.{CommitsHeard, CommitsWhole, Due}
 

@@ -1,5 +1,5 @@
 -- The end of an event at a running primary: what goes out, and a capture where there is a cause.
-use Rattle.std.proofs.Common.{◌≡◌, ℕ, ◌+◌, ◌%◌, ◌^◌, Bool, true, false, List, [], ◌∷◌, ◌++◌, append-nil, append_assoc, length, map, Option, None, Some, refl, sym, ap, subst, ◌∙◌}
+use Rattle.std.proofs.Common.{◌≡◌, ℕ, ◌+◌, ◌%◌, ◌^◌, Bool, false, List, [], ◌∷◌, ◌++◌, append-nil, append_assoc, length, map, Option, None, Some, refl, sym, ap, subst, ◌∙◌}
 use Rattle.std.proofs.lemmas.List.{length-map}
 use Rattle.colo_base.specs.declared.fault.Cause.{Cause}
 use Rattle.colo_wire.specs.declared.messages.Message.{Message}
@@ -12,15 +12,14 @@ use Rattle.settle_table.specs.declared.causes.Need.{Need}
 use Rattle.settle_table.specs.declared.causes.Need.TheVariants as need
 use Rattle.state_wire.specs.Guest.{Kind}
 use Rattle.node_release.specs.Causes.{cause_of}
-use Rattle.node_primary.specs.Node.{Primary}
-use Rattle.node_primary.specs.Steps.{capture as capture_primary, capture_for, compares, settle_node}
+use Rattle.node_primary.specs.Steps.{capture as capture_primary, capture_for, compares}
 use Rattle.out_compare.specs.Comparing.{need_after, settle, settlement_of}
 use Rattle.pair_core.specs.Events as core
 use Rattle.pair_core.specs.Pair.{Pair, is_primary, sent_down}
-use Rattle.pair_theorem.specs.Checkpoint.{capture, next_capture}
+use Rattle.pair_theorem.specs.Checkpoint.{capture}
 use Rattle.pair_theorem.specs.Events.{Ended, outcome_with}
 use Rattle.pair_theorem.specs.LogParts.{delivered_bytes}
-use Rattle.pair_theorem.specs.Past.{Outcome, Past, step_with}
+use Rattle.pair_theorem.specs.Past.{Past, step_with}
 use Rattle.pair_theorem.proofs.EventCases.{caused, settled_case, uncaused}
 use Rattle.settle_history.specs.Laws.{cause_in}
 use Rattle.compare_history.specs.Books.{primary_books}

@@ -1,10 +1,10 @@
 -- Two tests that are equal lead to the same of two branches, and what the stop of a pair says of the stop of its past.
-use Rattle.std.proofs.Common.{◌≡◌, ℕ, ◌&&◌, Bool, true, false, List, Option, None, Some, refl, sym, ap, ◌∙◌, true≢false}
+use Rattle.std.proofs.Common.{◌≡◌, ℕ, Bool, true, false, List, Option, None, Some, refl, sym, ap, ◌∙◌, true≢false}
 use Rattle.std.specs.Prelude.{if◌then◌else◌}
 use Rattle.std.proofs.lemmas.Bool.{and_parts}
 use Rattle.state_wire.specs.Guest.{Kind}
 use Rattle.node_secondary.specs.Node.{Node}
-use Rattle.node_secondary.specs.Survivor.{Second, Survivor, alone, hears}
+use Rattle.node_secondary.specs.Survivor.{Second, alone, hears}
 use Rattle.pair_core.specs.Pair.{Pair, is_primary, is_secondary}
 use Rattle.pair_core.specs.declared.node.Node as stopped
 use Rattle.pair_core.specs.declared.node.Node.TheVariants.{Primary, Secondary}

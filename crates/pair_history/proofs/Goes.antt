@@ -1,10 +1,8 @@
 -- What is to be shown of an event, and the events that do nothing.
-use Rattle.std.proofs.Common.{◌≡◌, ℕ, Bool, true, false, List, [], ◌∷◌, ◌++◌, append-nil, map, None, refl, sym, ap, subst, ◌∙◌}
+use Rattle.std.proofs.Common.{ℕ, List, ◌++◌, append-nil, None, refl, ap, ◌∙◌}
 use Rattle.colo_wire.specs.declared.messages.Message.{Message}
-use Rattle.colo_wire.specs.Spelling.{message_bytes}
 use Rattle.replay_log.specs.declared.lines.Line.{Line}
 use Rattle.replay_log.specs.declared.records.Answer.TheVariants.{Nothing}
-use Rattle.settle_rules.specs.Release.{released_frame}
 use Rattle.state_wire.specs.Guest.{Kind}
 use Rattle.pair_core.specs.Events as core
 use Rattle.pair_core.specs.Pair.{Pair, sent_down}

@@ -16,3 +16,4 @@ mod ReportEvents
 mod ClientEvents
 mod LoneClients
 mod LogLemmas
+mod DueEvents

@@ -1,8 +1,7 @@
 -- Each event of each log.
-use Rattle.std.proofs.Common.{◌≡◌, ℕ, Bool, true, false, List, [], ◌∷◌, ◌++◌, Option, None, Some, refl, sym, ap, subst, ◌∙◌, arith}
+use Rattle.std.proofs.Common.{◌≡◌, ℕ, Bool, List, [], ◌∷◌, ◌++◌, Option, None, Some, refl, sym, subst, arith}
 use Rattle.std.specs.Prelude.{All}
 use Rattle.shared_definitions.specs.Bytes.{AreBytes}
-use Rattle.state_wire.specs.Guest.{Kind}
 use Rattle.state_wire.specs.Regular.{IsRegular}
 use Rattle.replay_log.specs.declared.lines.Line.{Line}
 use Rattle.replay_log.specs.declared.lines.Line.TheVariants.{Primary, Secondary, Client, ToSecondary, ToPrimary, StopPrimary, StopSecondary, Report, Ask}
@@ -79,7 +78,7 @@ fits : (a : Start) → IsStart a → Fits a
 fits a (boots kind stream state m n regular sizes bytes frames) =
     record { regular = regular; state = record { fits = sizes; bytes = bytes }; frames = frames }
 
-one : (a : Start) (lines : List Line) → OneCheckpoint (past_after a lines)
+pub one : (a : Start) (lines : List Line) → OneCheckpoint (past_after a lines)
 unfolding past_after
 one a lines = one_checkpoint Any a (pair_log a lines) (past_after a lines) (reached_any a lines)
 

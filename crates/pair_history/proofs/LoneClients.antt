@@ -28,7 +28,7 @@ use Rattle.pair_core.specs.Pair.{Pair, is_primary}
 use Rattle.pair_theorem.specs.ClientFrames.{trims_by}
 use Rattle.pair_theorem.specs.Events.{accept_by, client_entry, client_event, outcome_of, passed_frame, take_frame}
 use Rattle.pair_theorem.specs.LogParts.{delivered_bytes}
-use Rattle.pair_theorem.specs.Past.{Outcome, Past, is_primary_stop, secondary_releases, silently}
+use Rattle.pair_theorem.specs.Past.{Past, is_primary_stop, secondary_releases, silently}
 use Rattle.pair_theorem.proofs.AllLemmas.{All_at}
 use Rattle.settle_history.specs.Standing.{StandsFor}
 use Rattle.compare_history.specs.Books.{survivor_books}
@@ -163,8 +163,8 @@ frame_alike kind stream past w n kept h releases t clean =
       after = refused_stands kind stream past w n gate.Full [] h releases t;
     }
 
-entry_alike : (kind : Kind) (stream : List (List ℕ)) (past : Past) (w : Pair) (n : Survivor) (frame : List ℕ) (x : Entry)
-    → Stands kind stream past (alone_pair kind stream past n w) → secondary_releases past ≡ true
+entry_alike : (kind : Kind) (stream : List (List ℕ)) (past : Past) (w : Pair) (n : Survivor) (frame : List ℕ)
+    (x : Entry) → Stands kind stream past (alone_pair kind stream past n w) → secondary_releases past ≡ true
     → SurvivorStands past n → AreBytes frame → entry_of frame ≡ x
     → Goes kind stream (client_entry past x)
     (taken kind stream past n w (gated n.comparing past.secondary_inbox past.next x))

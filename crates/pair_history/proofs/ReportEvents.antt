@@ -1,5 +1,5 @@
 -- The report of a stop: the other node survives.
-use Rattle.std.proofs.Common.{◌≡◌, ℕ, Bool, true, false, List, [], ◌∷◌, Option, None, Some, length, map, refl, sym, ap, subst, ◌∙◌, true≢false}
+use Rattle.std.proofs.Common.{◌≡◌, ℕ, Bool, true, false, List, [], Option, None, Some, length, map, refl, sym, ap, subst, ◌∙◌, true≢false}
 use Rattle.std.specs.Prelude.{if◌then◌else◌}
 use Rattle.std.proofs.lemmas.Bool.{and_from}
 use Rattle.colo_base.specs.declared.fault.Cause.{Cause}
@@ -7,7 +7,6 @@ use Rattle.settle_rules.specs.Release.{Released, released_frame}
 use Rattle.state_wire.specs.Guest.{Kind}
 use Rattle.replay_log.specs.declared.lines.Line.TheVariants.{Report}
 use Rattle.replay_log.specs.declared.records.Answer.TheVariants.{Reported}
-use Rattle.node_release.specs.Causes.{cause_of}
 use Rattle.node_primary.specs.Steps.{capture_for, compares, left_alone, settle_node}
 use Rattle.node_secondary.specs.Node.{Node}
 use Rattle.node_secondary.specs.Steps.{survive_as}
@@ -72,7 +71,8 @@ primary_alike : (kind : Kind) (stream : List (List ℕ)) (past : Past) (w : Pair
     → is_secondary w.stopped ≡ true
     → Goes kind stream (outcome_with Report [] None Reported (primary_survives past))
     (core_primary_survives (primary_pair kind stream past past.awaits_ack false w))
-unfolding outcome_with mark_cause primary_survives settle_event ended_by core_primary_survives settle_node delivered_bytes
+unfolding outcome_with mark_cause primary_survives settle_event ended_by core_primary_survives settle_node
+    delivered_bytes
 primary_alike kind stream past w h runs other =
     let v = primary_pair kind stream past past.awaits_ack false w in
     let n = left_alone v.first in

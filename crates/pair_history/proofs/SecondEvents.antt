@@ -1,11 +1,10 @@
 -- A turn of the secondary.
-use Rattle.std.proofs.Common.{◌≡◌, ℕ, ◌&&◌, Bool, true, false, List, [], ◌∷◌, ◌++◌, append-nil, fold, length, map, Option, None, Some, refl, sym, ap, subst, ◌∙◌, true≢false}
+use Rattle.std.proofs.Common.{◌≡◌, ℕ, Bool, true, false, List, [], ◌++◌, append-nil, fold, length, map, Option, None, Some, refl, sym, ap, subst, ◌∙◌, true≢false}
 use Rattle.std.specs.Prelude.{if◌then◌else◌}
 use Rattle.std.proofs.lemmas.Bool.{and_right, cond-false, cond-true}
 use Rattle.colo_base.specs.declared.fault.Cause.{Cause}
 use Rattle.tcp_track.specs.Lines.{Item, sent}
 use Rattle.tcp_track.specs.Stands.{segments}
-use Rattle.tcp_track.specs.Tracking.{taken}
 use Rattle.settle_rules.specs.OwnFrames.{own_frames}
 use Rattle.settle_rules.specs.Release.{Released, released_frame}
 use Rattle.state_wire.specs.Guest.{Kind, sent_in}
@@ -21,7 +20,7 @@ use Rattle.node_secondary.specs.Turns.{guest_turn, make_turn, sent_messages}
 use Rattle.out_compare.specs.Comparing.{settlement_of, take_own}
 use Rattle.pair_core.specs.Events as core
 use Rattle.pair_core.specs.Events.{secondary_makes}
-use Rattle.pair_core.specs.Pair.{Pair, is_primary, is_secondary}
+use Rattle.pair_core.specs.Pair.{Pair, is_secondary}
 use Rattle.pair_theorem.specs.Events.{counted_frames, ended_by, number_message, numbers_of, outcome_of, raise_count, secondary_event, settle_event, survivor_ended, turn_secondary, turn_survivor}
 use Rattle.pair_theorem.specs.GuestTurns.{TurnMade, turn_from}
 use Rattle.pair_theorem.specs.LogParts.{delivered_bytes}
@@ -67,12 +66,14 @@ hearing_turn kind stream past w n d i b k h together s states rests =
         released = refl;
         wire = refl;
       };
-      after = second_stands kind stream past v (record (make_turn x t) { waits = [] }) made.run made.inbox (raise_count past.secondary_turned)
+      after = second_stands kind stream past v (record (make_turn x t) { waits = [] }) made.run made.inbox
+          (raise_count past.secondary_turned)
           past.secondary_numbers past.to_secondary (past.to_primary ++ map Sent (counted_frames made.output))
           (make_turn x t).waits h together turn.guest (record {
             inbox = turn.inbox;
             lines = subst (λ (xs : List Item). Tracks xs (make_turn x t).lines)
-                (ap (λ (fs : List (List ℕ)). past.secondary.items ++ map sent (segments fs)) turn.output ∙ sym turn.items)
+                (ap (λ (fs : List (List ℕ)). past.secondary.items ++ map sent (segments fs)) turn.output
+                ∙ sym turn.items)
                 (tracks_frames past.secondary.items n.lines (sent_in x.guest (guest_turn x t)) s.lines);
             numbers = s.numbers;
             waits = refl;
@@ -165,7 +166,8 @@ alone_turn kind stream past w n d i b k h releases s =
 -- EITHER
 running_turn : (kind : Kind) (stream : List (List ℕ)) (past : Past) (w : Pair) (s : Second) (d : ℕ) (i : Bool) (b k : ℕ)
     → Stands kind stream past w → w.second ≡ s → SecondStands kind past s
-    → Goes kind stream (if secondary_releases past then turn_survivor past (Secondary d i b k) (made_of kind past d i b k)
+    → Goes kind stream (if secondary_releases past
+    then turn_survivor past (Secondary d i b k) (made_of kind past d i b k)
     else turn_secondary past (Secondary d i b k) (made_of kind past d i b k)) (secondary_makes w (core.turn_of d i b k))
 running_turn kind stream past w (hears n) d i b k h is s =
     let made = made_of kind past d i b k in

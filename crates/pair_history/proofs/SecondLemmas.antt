@@ -1,5 +1,5 @@
 -- A secondary that hears: what its own turn or a message leaves, and the pair then.
-use Rattle.std.proofs.Common.{◌≡◌, ◌≤◌, ◌<◌, ℕ, not, Bool, true, false, nat_le, nat_lt, List, [], ◌∷◌, ◌++◌, append-nil, length, Option, None, Some, unwrap_or, is_some, refl, sym, ap, subst, ◌∙◌, arith}
+use Rattle.std.proofs.Common.{◌≡◌, ℕ, not, Bool, true, false, nat_le, nat_lt, List, [], ◌∷◌, ◌++◌, append-nil, length, Option, None, Some, unwrap_or, is_some, refl, sym, ap, subst, ◌∙◌, arith}
 use Rattle.std.specs.Prelude.{if◌then◌else◌}
 use Rattle.std.specs.Option.{option_map}
 use Rattle.inet_frame.specs.Counted.{client_tuple_of, tcp_in}
@@ -8,7 +8,7 @@ use Rattle.inet_frame.specs.declared.tuple.Tuple.{Tuple}
 use Rattle.tcp_track.specs.Lines.{Item}
 use Rattle.tcp_track.specs.Tracking.{Tracking}
 use Rattle.tcp_track.specs.declared.openings.Opening.{Opening}
-use Rattle.seq_rewriter.specs.Kept.{KeptNumbers, keep_number, number_of}
+use Rattle.seq_rewriter.specs.Kept.{KeptNumbers, number_of}
 use Rattle.seq_rewriter.proofs.KeptLemmas.{push_found}
 use Rattle.settle_rules.specs.Numbers.{KeptNumber, kept_number}
 use Rattle.frame_mirror.specs.Inboxes.{has_room}
@@ -42,7 +42,8 @@ full_is inbox = full_or_room (length inbox) INBOX_ROOM
 pub inbox_heard : (inbox : List Waiting) (w : Waiting)
     → with_frame inbox w ≡ (if is_full inbox then inbox else inbox ++ w ∷ [])
 inbox_heard inbox w =
-    subst (λ (c : Bool). with_frame inbox w ≡ (if c then inbox else inbox ++ w ∷ [])) (full_is inbox) (by (has_room inbox))
+    subst (λ (c : Bool). with_frame inbox w ≡ (if c then inbox else inbox ++ w ∷ [])) (full_is inbox)
+    (by (has_room inbox))
   where
     by : (c : Bool) → (if c then inbox ++ w ∷ [] else inbox) ≡ (if not c then inbox else inbox ++ w ∷ [])
     by true = refl

@@ -1,16 +1,14 @@
 -- Either node stops.
-use Rattle.std.proofs.Common.{◌≡◌, ℕ, Bool, true, false, List, [], Option, None, Some, refl, sym, ap, ◌∙◌, true≢false}
+use Rattle.std.proofs.Common.{◌≡◌, ℕ, false, List, None, refl, sym, ap, ◌∙◌, true≢false}
 use Rattle.replay_log.specs.declared.lines.Line.TheVariants.{StopPrimary, StopSecondary}
 use Rattle.replay_log.specs.declared.records.Answer.TheVariants.{Zero}
 use Rattle.state_wire.specs.Guest.{Kind}
 use Rattle.node_secondary.specs.Survivor.{Second, alone, hears}
 use Rattle.pair_core.specs.Events as core
 use Rattle.pair_core.specs.Pair.{Pair, is_primary, is_secondary}
-use Rattle.pair_core.specs.declared.node.Node as stopped
-use Rattle.pair_core.specs.declared.node.Node.TheVariants.{Primary, Secondary}
 use Rattle.pair_theorem.specs.LogParts.{delivered_bytes}
 use Rattle.pair_theorem.specs.Past.{Past, is_primary_stop, primary_stop, secondary_stop, silently}
-use Rattle.pair_history.specs.Standing.{SecondStands, Stands, stop_of}
+use Rattle.pair_history.specs.Standing.{SecondStands, Stands}
 use Rattle.pair_history.proofs.Flags.{primary_flag, releases_stopped}
 use Rattle.pair_history.proofs.Goes.{Goes}
 

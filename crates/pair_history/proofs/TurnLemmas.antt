@@ -13,7 +13,6 @@ use Rattle.tcp_track.specs.Tracking.{Tracking, taken, took_of}
 use Rattle.tcp_track.specs.declared.openings.Opening.{Opening}
 use Rattle.seq_rewriter.specs.Given.{opening_for, raise_frame}
 use Rattle.frame_mirror.specs.declared.ring.Waiting.{Waiting}
-use Rattle.settle_rules.specs.Numbers.{KeptNumber}
 use Rattle.state_wire.specs.Guest.{Kind, after_turn, sent_in, turn_of}
 use Rattle.colo_wire.specs.declared.messages.Message.{Message}
 use Rattle.colo_wire.specs.declared.messages.Message.TheVariants.{Sent}

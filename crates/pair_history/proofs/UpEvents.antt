@@ -1,5 +1,5 @@
 -- The primary hears a message.
-use Rattle.std.proofs.Common.{◌≡◌, ℕ, ◌+◌, ◌&&◌, ◌||◌, ◌==◌, not, Bool, true, false, List, [], ◌∷◌, ◌++◌, append-nil, length, map, Option, None, Some, is_some, refl, sym, ap, subst, ◌∙◌, true≢false, Ok, Err}
+use Rattle.std.proofs.Common.{◌≡◌, ℕ, ◌+◌, ◌&&◌, ◌||◌, not, Bool, true, false, List, [], ◌∷◌, ◌++◌, append-nil, length, map, None, Some, is_some, refl, sym, ap, subst, ◌∙◌, true≢false, Ok, Err}
 use Rattle.std.specs.Prelude.{if◌then◌else◌}
 use Rattle.std.proofs.lemmas.Bool.{and_parts, cond_both, cond-true, eq-eqb, not-true, or_parts}
 use Rattle.inet_frame.specs.Counted.{counted}
@@ -26,7 +26,6 @@ use Rattle.out_compare.specs.Comparing.{Comparing, acknowledge as acknowledge_ta
 use Rattle.pair_core.specs.Events as core
 use Rattle.pair_core.specs.Events.{hears_back_with, primary_hears}
 use Rattle.pair_core.specs.Pair.{Pair, is_primary, sent_down}
-use Rattle.inet_frame.specs.Fields.{TcpFields}
 use Rattle.pair_theorem.specs.Events as theirs
 use Rattle.pair_theorem.specs.Events.{ack_ended, acknowledge, committed_items, deliver_up, ended_by, is_ack_message, known_ended, outcome_of, outcome_with, restarts_in, sent_ended, settle_event}
 use Rattle.pair_theorem.specs.LogParts.{delivered_bytes}
@@ -42,7 +41,7 @@ use Rattle.theorem_runs.proofs.Checkpoints.{HeardBackFirst, ack_calm, acks, pop_
 use Rattle.theorem_runs.proofs.Orders.{beside_no_end, told_no_end}
 use Rattle.pair_history.specs.Due.{Due}
 use Rattle.pair_history.specs.Standing.{SecondStands, Stands}
-use Rattle.pair_history.proofs.EndLemmas.{Ends, calm_pair, ends_alike}
+use Rattle.pair_history.proofs.EndLemmas.{Ends, ends_alike}
 use Rattle.pair_history.proofs.Flags.{both_branches, primary_flag, releases_reported}
 use Rattle.pair_history.proofs.Goes.{Goes, idle, nothing_sent}
 use Rattle.pair_history.proofs.Written.{primary_pair, primary_pair_is}
@@ -149,7 +148,8 @@ still_ends kind stream p awaits w items known numbers progress rests heard resta
           awaits = sym rest;
           waits = refl;
         };
-        second = λ g. second_still kind p items known numbers progress rests heard restarts w.second together (h.second g);
+        second = λ g. second_still kind p items known numbers progress rests heard restarts w.second together
+            (h.second g);
       };
       runs = runs;
       may = λ why e. record { together = together; no_end = told_no_end p [] [] [] none };
@@ -160,7 +160,8 @@ known_alike : (kind : Kind) (stream : List (List ℕ)) (p : Past) (w : Pair) (t 
     → Stands kind stream p (primary_pair kind stream p false false w) → is_primary w.stopped ≡ false
     → p.is_reported ≡ false → has_end p.to_secondary ≡ false → p.awaits_ack ≡ false
     → Goes kind stream
-    (outcome_with ToPrimary [] (Some (Known t client number)) (HeardBack 12 p.sent_heard) (known_ended p t client number))
+    (outcome_with ToPrimary [] (Some (Known t client number)) (HeardBack 12 p.sent_heard)
+    (known_ended p t client number))
     (heard_due (primary_pair kind stream p false false w) (Known t client number))
 unfolding known_ended settle_node delivered_bytes
 known_alike kind stream p w t client number h runs together none rest =

@@ -1,13 +1,16 @@
 -- A pair that stands for the past after some lines: the event of one line more is the theorem's,
 -- and then the pair stands for the past after it.
-use Rattle.std.specs.Prelude.{◌≡◌, ℕ, Bool, true, List, [], ◌∷◌, ◌++◌, map, Option, None, ⊤}
+use Rattle.std.specs.Prelude.{◌≡◌, ℕ, Bool, true, false, List, [], ◌∷◌, map, None, ⊤}
 use Rattle.settle_rules.specs.Release.{released_frame}
 use Rattle.state_wire.specs.Guest.{GuestState, Kind}
+use Rattle.colo_wire.specs.declared.messages.Message.{Message}
 use Rattle.replay_log.specs.declared.lines.Line.{Line}
-use Rattle.replay_log.specs.declared.lines.Line.TheVariants.{Primary, Secondary, Client, ToSecondary, ToPrimary, StopPrimary, StopSecondary, Report, Ask}
+use Rattle.replay_log.specs.declared.lines.Line.TheVariants.{Primary, Secondary}
 use Rattle.node_primary.specs.Node.{IsCaptured}
+use Rattle.node_primary.specs.Steps.{is_due}
+use Rattle.node_secondary.specs.Steps.{is_due_to}
 use Rattle.pair_core.specs.Events as core
-use Rattle.pair_core.specs.Pair.{Pair, new_pair}
+use Rattle.pair_core.specs.Pair.{Pair, is_primary, is_secondary, new_pair}
 use Rattle.pair_core.specs.Steps.{refusal}
 use Rattle.pair_theorem.specs.Events.{outcome_of}
 use Rattle.pair_theorem.specs.History.{pair_log, past_from}
@@ -50,8 +53,7 @@ pub record GoesOnTo (kind : Kind) (stream : List (List ℕ)) (theirs : Outcome) 
 abbrev pub RestsCaptured : Pair → Type 0
 RestsCaptured w = w.first.awaits ≡ true → IsCaptured w.first.guest
 
--- The event of this line, after any lines. A message that isn't due never comes: the event of one
--- that is delivered answers what the theorem says, which tells of each.
+-- The event of this line, after any lines.
 abbrev pub GoesOn : Line → Type 0
 GoesOn x =
     (a : Start) (lines : List Line) (w : Pair) → IsStart a → StandsAfter a lines w →
@@ -63,6 +65,22 @@ PrimaryGoesOn = (d : ℕ) (i : Bool) (b n : ℕ) → GoesOn (Primary d i b n)
 
 abbrev pub SecondaryGoesOn : Type 0
 SecondaryGoesOn = (d : ℕ) (i : Bool) (b n : ℕ) → GoesOn (Secondary d i b n)
+
+-- ---- deliveries
+
+-- After any lines, until a report, the first message on a link to a node that runs is due. So none
+-- is lost: a delivery answers `-` only where nothing is on the link.
+abbrev pub DownIsDue : Type 0
+DownIsDue =
+    (a : Start) (lines : List Line) (w : Pair) (m : Message) (ms : List Message) →
+    StandsAfter a lines w → is_secondary w.stopped ≡ false → w.is_reported ≡ false →
+    w.down ≡ m ∷ ms → is_due_to w.second m ≡ true
+
+abbrev pub UpIsDue : Type 0
+UpIsDue =
+    (a : Start) (lines : List Line) (w : Pair) (m : Message) (ms : List Message) →
+    StandsAfter a lines w → is_primary w.stopped ≡ false → w.is_reported ≡ false →
+    w.up ≡ m ∷ ms → is_due w.first m ≡ true
 
 -- ---- a whole log
 
