@@ -21,6 +21,15 @@ CLIENT_MAC, CLIENT_ADDRESS = bytes.fromhex("525400aa0001"), bytes([10, 0, 2, 2])
 STEPS = 50_000          # more than the server takes for a frame
 MIB, PAGE = 1 << 20, 4096
 
+# runs a program from a process of its own, which is small: the system counts what a process took before it became the program
+RUN = """
+import os, subprocess, sys, time
+start = time.monotonic()
+process = subprocess.Popen(sys.argv[1:], stdout=subprocess.DEVNULL)
+_, status, usage = os.wait4(process.pid, 0)
+print(os.waitstatus_to_exitcode(status), time.monotonic() - start, usage.ru_maxrss)
+"""
+
 
 class Bench:
     def __init__(self, colo, folder):
@@ -31,14 +40,11 @@ class Bench:
 
     def run(self, *words):
         """Seconds, and the most MiB that were taken."""
-        start = time.monotonic()
-        process = subprocess.Popen([self.colo, *map(str, words)], stdout=subprocess.DEVNULL)
-        _, status, usage = os.wait4(process.pid, 0)
-        seconds = time.monotonic() - start
-        process.returncode = os.waitstatus_to_exitcode(status)
-        if process.returncode != 0:
-            sys.exit(f"'{' '.join(map(str, words))}' ended with status {process.returncode}")
-        return seconds, usage.ru_maxrss / 1024
+        made = subprocess.run([sys.executable, "-c", RUN, self.colo, *map(str, words)], capture_output=True, text=True, check=True)
+        status, seconds, kibibytes = made.stdout.split()
+        if status != "0":
+            sys.exit(f"'{' '.join(map(str, words))}' ended with status {status}")
+        return float(seconds), int(kibibytes) / 1024
 
     def best(self, *words):
         runs = [self.run(*words) for _ in range(ROUNDS)]
@@ -111,17 +117,46 @@ def echoes(bench, count=20_000):
     print(f"{count} echoes of 6 bytes: {seconds:.2f} s, {seconds / count * 1e6:.1f} µs each; at most {memory:.0f} MiB", flush=True)
 
 
+def refused(port, number):
+    """A SYN to a closed port."""
+    return tcp_frame((CLIENT_MAC, CLIENT_ADDRESS, port), (GUEST_MAC, GUEST_ADDRESS, 8), number, 0, SYN, 4096)
+
+
+def sent(bench, count=20_000):
+    """What the delivery of a Sent costs that has the 54 bytes of a reset: a session with these deliveries, and one without."""
+    boot = [f"P 100 0 0 {STEPS}", f"S 100 0 0 {STEPS}"]
+    lines = [*boot, *["c", ">", "S 0 1 0 2000"] * count]
+    frames = [refused(40000, 1000 + k) for k in range(count)]
+    without, _ = bench.replay(lines, frames)
+    with_it, _ = bench.replay([*lines, *["<"] * count], frames)
+    with open(bench.folder / "bare", "wb", buffering=0) as file:
+        start = time.monotonic()
+        for _ in range(count):
+            file.write(bytes(60))
+        bare = time.monotonic() - start
+    print(f"the delivery of a Sent of 54 bytes: {(with_it - without) / count * 1e6:.2f} µs (60 bytes are written to a file in {bare / count * 1e6:.2f} µs)",
+          flush=True)
+
+
+def idle(bench, connections, turns=1_000):
+    """An idle turn of the primary beside connections that were refused."""
+    boot = [f"P 100 0 0 {STEPS}", f"S 100 0 0 {STEPS}"]
+    lines = [*boot, *["c", ">", "P 0 1 0 2000", "S 0 1 0 2000", "<"] * connections]
+    frames = [refused(1024 + k, 1000) for k in range(connections)]
+    without, _ = bench.replay(lines, frames)
+    with_them, memory = bench.replay([*lines, *["P 1 0 0 0"] * turns], frames)
+    if bench.log_has("! q"):
+        sys.exit("a checkpoint was captured beside idle turns")
+    print(f"an idle turn beside {connections} connections: {(with_them - without) / turns * 1e6:.1f} µs; at most {memory:.0f} MiB", flush=True)
+
+
 def refusals(bench, count):
     """SYNs to a closed port, from one port and from as many ports as there are frames."""
     boot = [f"P 100 0 0 {STEPS}", f"S 100 0 0 {STEPS}"]
     lines = [*boot, *["c", ">", "P 0 1 0 2000", "S 0 1 0 2000", "<"] * count]
 
-    def syn(port, number):
-        ends = (CLIENT_MAC, CLIENT_ADDRESS, port), (GUEST_MAC, GUEST_ADDRESS, 8)
-        return tcp_frame(*ends, number, 0, SYN, 4096)
-
-    one, _ = bench.replay(lines, [syn(40000, 1000 + k) for k in range(count)])
-    many, memory = bench.replay(lines, [syn(1024 + k, 1000) for k in range(count)])
+    one, _ = bench.replay(lines, [refused(40000, 1000 + k) for k in range(count)])
+    many, memory = bench.replay(lines, [refused(1024 + k, 1000) for k in range(count)])
     print(f"{count} refused connections: {one:.2f} s from one port, {many:.2f} s from {count}; at most {memory:.0f} MiB", flush=True)
 
 
@@ -131,6 +166,9 @@ def main(colo, folder):
     bench = Bench(colo, folder)
     short_events(bench)
     echoes(bench)
+    sent(bench)
+    idle(bench, 10, 100_000)
+    idle(bench, int(os.environ.get("CONNECTIONS", "10000")))
     refusals(bench, 1_000)
     checkpoint(bench, 16)
     checkpoint(bench, 64)
