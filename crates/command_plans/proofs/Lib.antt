@@ -3,3 +3,6 @@ pub mod ImageLemmas
 pub mod ReplayLemmas
 pub mod SpliceLemmas
 pub mod SoloLemmas
+pub mod TextLemmas
+pub mod CarryLemmas
+pub mod RunEndLemmas

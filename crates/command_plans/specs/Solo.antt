@@ -12,7 +12,7 @@ use Rattle.splice_run.specs.Runs.{run_given, run_turns}
 use Rattle.splice_run.specs.Solo.{can_make}
 use Rattle.state_wire.specs.Guest.{Kind, Meaning}
 use Rattle.state_wire.specs.Run.{Run}
-use Rattle.command_plans.specs.Planning.{plan_or}
+use Rattle.command_plans.specs.Planning.{of_four, plan_or}
 use Rattle.command_plans.specs.Replay.{state_steps}
 
 -- ---- what is run
@@ -66,3 +66,7 @@ unfoldable pub solo_plan : ℕ → List ℕ → List ℕ → List ℕ → List �
 solo_plan mib image disk client lines =
     plan_or (read_start mib image disk client) (λ start.
     plan_or (read_single lines) (λ turns. run_plan start.machine start.frames turns))
+
+-- the same of the texts that were read
+abbrev pub solo_texts : ℕ → List (List ℕ) → Plan
+solo_texts mib texts = of_four (solo_plan mib) texts

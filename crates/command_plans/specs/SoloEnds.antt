@@ -1,6 +1,6 @@
 -- What the code of `solo` holds of a run that has ended.
-use Rattle.std.specs.Prelude.{◌++◌, codes, string_bytes}
-use Rattle.file_steps.specs.Plans.{Plan, done, refused}
+use Rattle.std.specs.Prelude.{◌++◌, IsTrue, codes, string_bytes}
+use Rattle.file_steps.specs.Plans.{Plan, done, is_own, refused}
 use Rattle.file_steps.specs.Status.{refusal_of}
 use Rattle.file_steps.specs.Steps.{append_step, creates}
 use Rattle.state_wire.specs.Guest.{GuestState}
@@ -18,3 +18,8 @@ ended_plan state (Made sent line) =
     }
 ended_plan state (Stopped refusal) =
     record { steps = creates solo_files; end = refused (refusal_of refusal) }
+
+-- the refusal of a run that stopped has a status of its own
+abbrev pub IsOwnEnd : RunEnd → Type 0
+IsOwnEnd (Made sent line) = Unit {0}
+IsOwnEnd (Stopped refusal) = IsTrue (is_own refusal.status)

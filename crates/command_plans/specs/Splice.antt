@@ -1,7 +1,7 @@
 -- `splice`: the single run that a log names is written.
-use Rattle.std.specs.Prelude.{ℕ, List, ◌++◌, codes, decimal, flat_map, length}
+use Rattle.std.specs.Prelude.{ℕ, List, [], ◌∷◌, ◌++◌, codes, decimal, flat_map, length}
 use Rattle.command_inputs.specs.Texts.{read_log}
-use Rattle.file_steps.specs.Plans.{Plan, done}
+use Rattle.file_steps.specs.Plans.{Plan, Task, done, offline, waits}
 use Rattle.replay_log.specs.Texts.{turn_text}
 use Rattle.replay_log.specs.declared.turns.Turn.{Turn}
 use Rattle.splice_run.specs.Single.{single_run}
@@ -24,3 +24,12 @@ single_plan turns =
 -- the log is refused by its first bad line; else its single run is written
 unfoldable pub splice_plan : List ℕ → Plan
 splice_plan text = plan_or (read_log text) (λ log. single_plan (single_run log))
+
+-- of one text
+abbrev pub splice_texts : List (List ℕ) → Plan
+splice_texts (text ∷ []) = splice_plan text
+splice_texts texts = record { steps = []; end = waits }
+
+-- the file of the log, to another
+abbrev pub splice_task : List ℕ → List ℕ → Task
+splice_task log out = record { reads = log ∷ []; out = out; making = offline splice_texts }

@@ -9,5 +9,5 @@ mod splice;
 
 pub use image::write_image;
 pub use replay::run_pair;
-pub use solo::{RunEnd, SoloRun, make_run, plan_solo};
-pub use splice::{FilePlan, plan_splice};
+pub use solo::{RunEnd, SoloRun, make_run, plan_solo, run_solo};
+pub use splice::{FilePlan, plan_splice, write_splice};

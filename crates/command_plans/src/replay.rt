@@ -250,7 +250,7 @@ fn write_disk<S: Shelf, G: Guest>(
 }
 
 /// Writes memory and disk of a guest.
-fn write_state<S: Shelf, G: Guest>(
+pub(crate) fn write_state<S: Shelf, G: Guest>(
     alloc: Global,
     shelf: &mut S,
     out: &str,

@@ -1,14 +1,17 @@
-//! `splice`: the single run that a log names, as a plan.
+//! `splice`: writes the single run that a log names.
 
-ghost use Rattle.std.specs.Prelude.{◌≡◌, IfOk, IfErr, string_bytes};
+ghost use Rattle.std.specs.Prelude.{◌≡◌, [], ◌∷◌, IfOk, IfErr, OnOk, string_bytes};
+ghost use Rattle.file_steps.specs.Ending.{Completes, TaskFails};
 ghost use Rattle.file_steps.specs.Plans.{done};
+ghost use Rattle.file_steps.specs.Reading.{AreRead, IsUntouched, ReadFails};
 ghost use Rattle.command_plans.specs.OneFile.{one_file};
 ghost use Rattle.command_plans.specs.Planning.{IsRefusal};
-ghost use Rattle.command_plans.specs.Splice.{single_text, splice_plan, turns_line};
+ghost use Rattle.command_plans.specs.Splice.{single_text, splice_plan, splice_task, turns_line};
 
-use colo_base::NoMemory;
+use crate::one_file::write_file;
+use colo_base::{NoMemory, Shelf};
 use command_inputs::read_log;
-use file_steps::Fault;
+use file_steps::{Fault, read_all};
 use replay_log::{Turn, write_turn};
 use splice_run::splice;
 use std::alloc::{AllocError, Global};
@@ -53,4 +56,40 @@ pub fn plan_splice(alloc: Global, text: &[u8]) -> Result<FilePlan, Fault>
     let bytes = text_of(alloc, &turns)?;
     let line = turns_line(alloc, &turns)?;
     Ok(FilePlan { bytes, line })
+}
+
+/// The bytes of one file.
+fn read_text<S: Shelf>(alloc: Global, shelf: &mut S, name: &str) -> Result<Vec<u8>, Fault>
+    ensures read { IfOk result (λ text. AreRead (S.state shelf.old) (name.now ∷ [])
+        (text.items ∷ [])) }
+    ensures untouched { OnOk result (IsUntouched (S.state shelf.old) (S.state shelf.new)) }
+    ensures fails { IfErr result (ReadFails (name.now ∷ []) (S.state shelf.old)
+        (S.state shelf.new)) }
+{
+    let names = [name];
+    let mut files = read_all(alloc, shelf, &names)?;
+    match files.pop() {
+        Some(text) => Ok(text),
+        None => unreachable!(),
+    }
+}
+
+/// Carries `splice` out: reads the file `log`, and writes the single run that it names to the file
+/// `out`. Gives the line to print.
+pub fn write_splice<S: Shelf>(
+    alloc: Global,
+    shelf: &mut S,
+    log: &str,
+    out: &str,
+) -> Result<String, Fault>
+    ensures done { IfOk result (λ line. Completes (splice_task log.now out.now)
+        (S.state shelf.old) (S.state shelf.new) (string_bytes line)) }
+    ensures fails { IfErr result (TaskFails (splice_task log.now out.now)
+        (S.state shelf.old) (S.state shelf.new)) }
+{
+    let text = read_text(alloc, shelf, log)?;
+    let plan = plan_splice(alloc, &text)?;
+    let FilePlan { bytes, line } = plan;
+    write_file(alloc, shelf, out, &bytes)?;
+    Ok(line)
 }
