@@ -1,6 +1,7 @@
 //! A pair, and one step of it.
 
 ghost use Rattle.std.specs.Prelude.{◌≡◌, ◌≢◌, ◌+◌, ◌≤◌, ◌<◌, ◌^◌, ◌++◌, ◌∷◌, [], true, false, length, None, Some, Ok, Err, IsErr, IfOk, IfErr, OnOk, OnErr};
+ghost use Rattle.node_primary.specs.Node.{IsCaptured};
 ghost use Rattle.pair_core.specs.Events.{event_of};
 ghost use Rattle.pair_core.specs.Inside.{Makes, plain};
 ghost use Rattle.pair_core.specs.Pair.{new_pair, pair_of, survivor};
@@ -227,6 +228,15 @@ impl<G: Guest + Drop> Pair<G> {
         ensures up { result.1 ≡ length self.now.up }
     {
         (self.parts.down.len(), self.parts.up.len())
+    }
+
+    /// Whether the primary awaits the acknowledgement of a checkpoint. While it does, its guest
+    /// rests as it was captured.
+    pub fn awaits(&self) -> bool
+        ensures value { result ≡ self.now.first.awaits }
+        ensures captured { result ≡ true → IsCaptured (G.meaning self.now.first.guest) }
+    {
+        self.parts.first.awaits()
     }
 
     /// The guest of the node that survives: the secondary's exactly where the primary stopped.

@@ -15,5 +15,5 @@ mod DownEvents
 mod ReportEvents
 mod ClientEvents
 mod LoneClients
-mod LogLemmas
+pub mod LogLemmas
 mod DueEvents

@@ -90,7 +90,7 @@ states a lines start =
     (reached_any a lines)
 
 -- one line more
-past_then : (a : Start) (lines : List Line) (x : Line)
+pub past_then : (a : Start) (lines : List Line) (x : Line)
     → past_after a (lines ++ x ∷ []) ≡ (outcome_of a.kind a.stream (past_after a lines) x).after
 unfolding past_after past_from
 past_then a lines x = past_from-append a.kind a.stream (first_past a) lines (x ∷ [])
@@ -146,7 +146,7 @@ goes_on_ask = goes_on Ask
     (λ a lines w start h good. ask_alike a.kind a.stream (past_after a lines) w h (one a lines))
 
 -- ANY EVENT, and a whole log
-any_goes_on : (x : Line) → GoesOn x
+pub any_goes_on : (x : Line) → GoesOn x
 any_goes_on (Primary d i b n) = goes_on_primary d i b n
 any_goes_on (Secondary d i b n) = goes_on_secondary d i b n
 any_goes_on Client = goes_on_client
