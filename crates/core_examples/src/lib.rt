@@ -1,7 +1,9 @@
 //! Worked examples of a pair: the logs of schedules over two test guests, with the frames that go
-//! out and the bytes of messages.
+//! out and the bytes of messages; and a checkpoint of a machine.
 #![tactic(auto)]
 
+#[cfg(test)]
+mod capture;
 #[cfg(test)]
 mod logs;
 #[cfg(test)]
