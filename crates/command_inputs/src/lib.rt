@@ -15,6 +15,6 @@ pub use law::{
 };
 pub use lines::{read_log, read_schedule, read_single};
 pub use machine::read_machine;
-pub use refusals::line_refusal;
+pub use refusals::{client_refusal, line_refusal};
 pub use schedule::{PrimaryTurn, read_turns};
 pub use start::{Started, read_start};

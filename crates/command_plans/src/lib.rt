@@ -8,6 +8,8 @@ mod solo;
 mod splice;
 
 pub use image::write_image;
-pub use replay::run_pair;
+pub use replay::{
+    Counts, REPLAY_FILES, count_step, run_line, run_pair, stream, summary, write_state,
+};
 pub use solo::{RunEnd, SoloRun, make_run, plan_solo, run_solo};
 pub use splice::{FilePlan, plan_splice, write_splice};

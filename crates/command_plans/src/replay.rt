@@ -18,7 +18,7 @@ use state_wire::Guest;
 use std::alloc::{AllocError, Global};
 
 /// The files of a replay, in the order in which they are created.
-const REPLAY_FILES: [&str; 5] = [".log", ".released", ".wire", ".ram", ".disk"];
+pub const REPLAY_FILES: [&str; 5] = [".log", ".released", ".wire", ".ram", ".disk"];
 
 /// Adds a frame, after its length in four bytes.
 #[tactic(auto, unfolding(sock_link::specs::Stream::record_of))]
@@ -31,7 +31,7 @@ fn add_record(frame: &[u8], into: &mut Vec<u8>) -> Result<(), AllocError>
 }
 
 /// The frames, each after its length.
-pub(crate) fn stream(alloc: Global, frames: &Frames) -> Result<Vec<u8>, NoMemory>
+pub fn stream(alloc: Global, frames: &Frames) -> Result<Vec<u8>, NoMemory>
     ensures { IfOk result (λ text. text.items ≡ stream_of frames.now) }
 {
     let mut text = Vec::new(alloc);
@@ -67,10 +67,13 @@ fn write_step<S: Shelf>(alloc: Global, shelf: &mut S, out: &str, step: &Step) ->
 
 /// What a run is counted by: its events, the frames released, and the checkpoints begun.
 #[derive(Clone, Copy)]
-pub(crate) struct Counts {
-    lines: u64,
-    released: u64,
-    captured: u64,
+pub struct Counts {
+    /// How many events were made.
+    pub lines: u64,
+    /// How many frames they released, 2^64 - 1 at most.
+    pub released: u64,
+    /// How many checkpoints they began, 2^64 - 1 at most.
+    pub captured: u64,
 }
 
 /// How many of the marks begin a checkpoint.
@@ -87,7 +90,7 @@ fn captures_in(marks: &Marks) -> u64
 }
 
 /// Counts one event more.
-fn count_step(counts: Counts, step: &Step) -> Counts
+pub fn count_step(counts: Counts, step: &Step) -> Counts
     requires { counts.lines < 2 ^ 63 }
     ensures lines { result.lines ≡ counts.lines + 1 }
     ensures released { result.released ≡ count (counts.released + length step.now.released) }
@@ -104,7 +107,7 @@ fn count_step(counts: Counts, step: &Step) -> Counts
 }
 
 /// Makes the event of a line, and writes what it leaves.
-fn run_line<S: Shelf, G: Guest + Drop>(
+pub fn run_line<S: Shelf, G: Guest + Drop>(
     alloc: Global,
     shelf: &mut S,
     out: &str,
@@ -250,7 +253,7 @@ fn write_disk<S: Shelf, G: Guest>(
 }
 
 /// Writes memory and disk of a guest.
-pub(crate) fn write_state<S: Shelf, G: Guest>(
+pub fn write_state<S: Shelf, G: Guest>(
     alloc: Global,
     shelf: &mut S,
     out: &str,
@@ -266,7 +269,7 @@ pub(crate) fn write_state<S: Shelf, G: Guest>(
 }
 
 /// The line that a replay ends with.
-fn summary(alloc: Global, counts: Counts) -> Result<String, AllocError>
+pub fn summary(alloc: Global, counts: Counts) -> Result<String, AllocError>
     ensures { IfOk result (λ text. string_bytes text ≡ counts_line counts) }
 {
     let Counts {
