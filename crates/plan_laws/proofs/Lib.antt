@@ -1,0 +1,5 @@
+mod FrontLemmas
+mod LeaveLemmas
+mod FilesLemmas
+mod EventLemmas
+mod StatusLemmas

@@ -1,0 +1,44 @@
+//! Laws of plans: what a front of a task's steps is, and what steps leave. Each is the contract of
+//! a function that does nothing.
+#![tactic(auto)]
+
+ghost use Rattle.plan_laws.specs.Events.{EventsAreWhole};
+ghost use Rattle.plan_laws.specs.Files.{OneFileLeaves, ReplayLeaves, SoloLeaves};
+ghost use Rattle.plan_laws.specs.Fronts.{FrontsOfTwo, LaterFilesStay};
+ghost use Rattle.plan_laws.specs.Statuses.{RefusalsAreFirst};
+
+/// A law: where a file can't be created, the files that are created after it are as they were.
+pub fn later_files_stay()
+    ensures { LaterFilesStay }
+{}
+
+/// A law: steps are made in their order.
+pub fn fronts_of_two()
+    ensures { FrontsOfTwo }
+{}
+
+/// A law: where a replay is cut off, what an event leaves was written before anything of the next.
+pub fn events_are_whole()
+    ensures { EventsAreWhole }
+{}
+
+/// A law: what the five files hold after a replay.
+pub fn replay_leaves()
+    ensures { ReplayLeaves }
+{}
+
+/// A law: what the three files hold after a single run.
+pub fn solo_leaves()
+    ensures { SoloLeaves }
+{}
+
+/// A law: what the file of a command that writes one holds.
+pub fn one_file_leaves()
+    ensures { OneFileLeaves }
+{}
+
+/// A law: where what is read is refused before any file is created, its own status comes, unless a
+/// file can't be read or memory is refused.
+pub fn refusals_are_first()
+    ensures { RefusalsAreFirst }
+{}
