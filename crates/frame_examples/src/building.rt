@@ -7,8 +7,8 @@ use std::process::Abort;
 use std::test::Fail;
 use worked_frames::{CLEAN_SYN, OPTIONS_SYN, SYN};
 
-/// What builds and edits segments. No call has a clause, so that what the contracts say stands in no
-/// goal of a test.
+/// What builds and edits segments. No call has a clause, so that what the contracts say stands in
+/// no goal of a test.
 trait Builds {
     /// A segment of the guest to the client's port 40000; `None` where memory ran out or the bytes
     /// are too many.
@@ -83,8 +83,8 @@ fn word_at(frame: &[u8], at: usize) -> Option<u16> {
 }
 
 /// Asserts the length of a segment with this payload and its two checksums.
-fn has_sums<B: Builds>(
-    rt: &impl Abort,
+fn has_sums<R: Abort, B: Builds>(
+    rt: &R,
     builder: &B,
     payload: &[u8],
     sums: (u16, u16),
@@ -97,7 +97,7 @@ fn has_sums<B: Builds>(
 }
 
 /// Asserts that a frame is the client's SYN but for the bytes at these places.
-fn differs_at(rt: &impl Abort, frame: &[u8], changes: &[(usize, u8)]) {
+fn differs_at<R: Abort>(rt: &R, frame: &[u8], changes: &[(usize, u8)]) {
     assert_eq!(rt; frame.len(), OPTIONS_SYN.len());
     for ((at, byte), old) in frame.iter().enumerate().zip(&OPTIONS_SYN) {
         let mut wanted = *old;
@@ -177,7 +177,7 @@ fn syn_with<B: Builds>(builder: &B, options: &[u8; 4]) -> [u8; 74] {
 }
 
 /// Asserts what the last options of a SYN become.
-fn options_become<B: Builds>(rt: &impl Abort, builder: &B, before: &[u8; 4], after: &[u8; 4]) {
+fn options_become<R: Abort, B: Builds>(rt: &R, builder: &B, before: &[u8; 4], after: &[u8; 4]) {
     let mut frame = syn_with(builder, before);
     assert!(rt; builder.clean(&mut frame));
     let wanted = syn_with(builder, after);

@@ -4,6 +4,8 @@
 #[cfg(test)]
 mod building;
 #[cfg(test)]
+mod frames;
+#[cfg(test)]
 mod lines;
 #[cfg(test)]
 mod mirror;
@@ -11,3 +13,5 @@ mod mirror;
 mod numbers;
 #[cfg(test)]
 mod reading;
+#[cfg(test)]
+mod scene;

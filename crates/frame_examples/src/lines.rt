@@ -86,6 +86,10 @@ fn frame_of(name: &str) -> Option<&'static [u8]> {
 /// What a script drives. No call has a clause, so that what the contracts say stands in no goal of
 /// a test.
 trait Follows {
+    /// A guest that sent nothing.
+    fn start(alloc: Global) -> Self
+    where
+        Self: Sized;
     /// Takes a frame, and says what it was; `None` where memory ran out.
     fn take(&mut self, frame: &[u8]) -> Option<What>;
     /// Trims the connection of a client to an offset.
@@ -107,6 +111,13 @@ struct Followed {
 }
 
 impl Follows for Followed {
+    fn start(alloc: Global) -> Followed {
+        Followed {
+            alloc,
+            tracker: Tracker::new(alloc),
+        }
+    }
+
     fn take(&mut self, frame: &[u8]) -> Option<What> {
         match self.tracker.take(frame) {
             Ok(took) => Some(took.what),
@@ -232,13 +243,8 @@ fn play_with<R: Abort, F: Follows>(rt: &R, followed: &mut F, script: &str) {
 }
 
 /// Plays a script of a guest that sent nothing.
-fn play(rt: &(impl Abort + AllocGlobal), script: &str) {
-    let alloc = rt.alloc();
-    let mut followed = Followed {
-        alloc,
-        tracker: Tracker::new(alloc),
-    };
-    play_with(rt, &mut followed, script);
+fn play<R: Abort + AllocGlobal, F: Follows + Drop>(rt: &R, script: &str) {
+    play_with(rt, &mut F::start(rt.alloc()), script);
 }
 
 /// Each way of a frame.
@@ -306,18 +312,18 @@ take other : opened 1000 9000
 
 #[test]
 fn each_way_of_a_frame(rt: HostRuntime) {
-    play(&rt, WAYS);
+    play::<_, Followed>(&rt, WAYS);
 }
 
 #[test]
 fn lines_are_followed_and_trimmed(rt: HostRuntime) {
-    play(&rt, OVERLAP);
-    play(&rt, FIN);
-    play(&rt, TRIMS);
+    play::<_, Followed>(&rt, OVERLAP);
+    play::<_, Followed>(&rt, FIN);
+    play::<_, Followed>(&rt, TRIMS);
 }
 
 #[test]
 fn openings_are_committed_and_put(rt: HostRuntime) {
-    play(&rt, COMMIT);
-    play(&rt, PUT);
+    play::<_, Followed>(&rt, COMMIT);
+    play::<_, Followed>(&rt, PUT);
 }

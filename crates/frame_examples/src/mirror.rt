@@ -1,147 +1,138 @@
 //! A frame for each reason to drop it, a SYN that is cleaned, an ARP request, and a full inbox. The
-//! frames were put together by an independent script.
+//! frames were put together by an independent script. A line of a text takes a frame, and answers
+//! its drop number, 0 where it is accepted or answered; `is_clean` and `is_answered` compare what
+//! is kept of it, and the reply to it.
 
-use colo_base::Contents;
+use crate::frames::made;
+use crate::scene::play;
+use colo_base::{Contents, NoMemory};
 use frame_mirror::{Entry, Inbox, Waiting, accept};
 use std::alloc::Global;
-use std::process::Abort;
 use std::test::Fail;
-use worked_frames::{ARP, ARP_REPLY, CLEAN_SYN, CLIENT_SYN, SUMMED_UDP};
+use worked_frames::{ARP_REPLY, CLEAN_SYN};
+use worked_steps::{Answer, Scene, no_such_call, number, word, yes_or_no};
 
-/// A SYN to 10.0.2.16 with the guest's MAC address.
-const ELSEWHERE: [u8; 54] = [
-    0x52, 0x54, 0x00, 0x12, 0x34, 0x56, 0x52, 0x54, 0x00, 0xAA, 0x00, 0x01, 0x08, 0x00, 0x45, 0x00,
-    0x00, 0x28, 0x00, 0x00, 0x40, 0x00, 0x40, 0x06, 0x22, 0xBF, 0x0A, 0x00, 0x02, 0x02, 0x0A, 0x00,
-    0x02, 0x10, 0x9C, 0x40, 0x00, 0x07, 0x00, 0x00, 0x03, 0xE8, 0x00, 0x00, 0x00, 0x00, 0x50, 0x02,
-    0x10, 0x00, 0xE7, 0xA1, 0x00, 0x00,
-];
-
-/// What is done with a client's frame. No call has a clause, so that what the contracts say stands
-/// in no goal of a test; `None` is also where memory ran out.
-trait Gate {
-    /// The number of a dropped frame, 0 for any other.
-    fn number(&self, frame: &[u8]) -> Option<u8>;
-    /// The bytes of an accepted frame.
-    fn kept(&self, frame: &[u8]) -> Option<Vec<u8>>;
-    /// The reply to a frame.
-    fn reply(&self, frame: &[u8]) -> Option<[u8; 42]>;
-}
-
-/// The gate of the pair.
-#[derive(Clone, Copy)]
-struct Accepts(Global);
-
-impl Gate for Accepts {
-    fn number(&self, frame: &[u8]) -> Option<u8> {
-        match accept(self.0, frame) {
-            Ok(Entry::Drop(why)) => Some(why.number),
-            Ok(Entry::Frame(_)) | Ok(Entry::Answer(_)) => Some(0),
-            Err(_) => None,
-        }
-    }
-
-    fn kept(&self, frame: &[u8]) -> Option<Vec<u8>> {
-        match accept(self.0, frame) {
-            Ok(Entry::Frame(kept)) => kept.as_slice().to_vec(self.0).ok(),
-            Ok(Entry::Drop(_)) | Ok(Entry::Answer(_)) | Err(_) => None,
-        }
-    }
-
-    fn reply(&self, frame: &[u8]) -> Option<[u8; 42]> {
-        match accept(self.0, frame) {
-            Ok(Entry::Answer(reply)) => Some(reply),
-            Ok(Entry::Drop(_)) | Ok(Entry::Frame(_)) | Err(_) => None,
-        }
-    }
-}
-
-/// The number of a frame of which up to two bytes were changed.
-fn number_of<G: Gate>(
+/// A client's frame at the gate of the pair.
+#[derive(Drop)]
+struct Gate {
     alloc: Global,
-    gate: &G,
-    frame: &[u8],
-    changes: [(usize, u8); 2],
-) -> Result<u8, Fail> {
-    let mut bytes = frame.to_vec(alloc)?;
-    for (at, value) in changes {
-        if let Some(byte) = bytes.get_mut(at) {
-            *byte = value;
+    frame: Vec<u8>,
+}
+
+/// The number of a dropped frame, 0 for any other.
+fn drop_number(alloc: Global, frame: &[u8]) -> Answer {
+    match accept(alloc, frame) {
+        Ok(Entry::Drop(why)) => number(u64::from(why.number)),
+        Ok(Entry::Frame(_)) | Ok(Entry::Answer(_)) => number(0),
+        Err(_) => word("out of memory"),
+    }
+}
+
+/// Whether the clean SYN is kept of a frame.
+fn is_clean(alloc: Global, frame: &[u8]) -> bool {
+    match accept(alloc, frame) {
+        Ok(Entry::Frame(kept)) => kept.as_slice() == CLEAN_SYN.as_slice(),
+        Ok(Entry::Drop(_)) | Ok(Entry::Answer(_)) | Err(_) => false,
+    }
+}
+
+/// Whether a frame is answered by the worked reply.
+fn is_answered(alloc: Global, frame: &[u8]) -> bool {
+    match accept(alloc, frame) {
+        Ok(Entry::Answer(reply)) => reply.as_slice() == ARP_REPLY.as_slice(),
+        Ok(Entry::Drop(_)) | Ok(Entry::Frame(_)) | Err(_) => false,
+    }
+}
+
+impl Scene for Gate {
+    fn call(&mut self, name: &str, n: &[u32; 6]) -> Answer {
+        if let Some(frame) = made(self.alloc, &self.frame, name, n) {
+            self.frame = frame;
+            return drop_number(self.alloc, &self.frame);
+        }
+        match name {
+            "is_clean" => yes_or_no(is_clean(self.alloc, &self.frame)),
+            "is_answered" => yes_or_no(is_answered(self.alloc, &self.frame)),
+            _ => no_such_call(),
         }
     }
-    Ok(gate.number(&bytes).ok_or("out of memory")?)
 }
 
-#[test]
-fn dropped_frames_have_the_first_number(rt: HostRuntime) -> Result<(), Fail> {
-    let none = (usize::MAX, 0);
-    let long = [0; 1515];
-    for (frame, changes, number) in [
-        (CLIENT_SYN.as_slice(), [none, none], 0),
-        (ARP.as_slice(), [none, none], 0),
-        (&CLIENT_SYN[..13], [none, none], 1),
-        (long.as_slice(), [none, none], 2),
-        (CLIENT_SYN.as_slice(), [(12, 0x86), none], 3),
-        (ARP.as_slice(), [(21, 2), none], 4),
-        (CLIENT_SYN.as_slice(), [(14, 0x65), none], 5),
-        (CLIENT_SYN.as_slice(), [(25, 0xAD), none], 6),
-        (CLIENT_SYN.as_slice(), [(20, 0x20), (24, 0x42)], 7),
-        (CLIENT_SYN.as_slice(), [(23, 1), (25, 0xB1)], 8),
-        (CLIENT_SYN.as_slice(), [(46, 0x40), none], 9),
-        (CLIENT_SYN.as_slice(), [(50, 0x80), none], 10),
-        (SUMMED_UDP.as_slice(), [(39, 0x0C), none], 11),
-        (SUMMED_UDP.as_slice(), [(40, 0x23), none], 12),
-        (CLIENT_SYN.as_slice(), [(5, 0x57), none], 13),
-        (ELSEWHERE.as_slice(), [none, none], 13),
-        (SUMMED_UDP.as_slice(), [(5, 0x57), none], 13),
-        (ARP.as_slice(), [(41, 0x10), none], 13),
-        (SUMMED_UDP.as_slice(), [none, none], 14),
-    ] {
-        let gate = Accepts(rt.alloc());
-        assert_eq!(rt; number_of(rt.alloc(), &gate, frame, changes)?, number);
+impl Gate {
+    fn new(alloc: Global) -> Gate {
+        Gate {
+            alloc,
+            frame: Vec::new(alloc),
+        }
     }
-    Ok(())
 }
 
-/// Asserts what is kept of a frame, and the reply to another.
-fn are_kept_and_answered<G: Gate>(rt: &impl Abort, gate: &G) -> Result<(), Fail> {
-    let kept = gate.kept(&CLIENT_SYN).ok_or("no frame")?;
-    assert_eq!(rt; kept.as_slice(), CLEAN_SYN.as_slice());
-    let reply = gate.reply(&ARP).ok_or("no reply")?;
-    assert_eq!(rt; reply.as_slice(), ARP_REPLY.as_slice());
-    Ok(())
+/// Each number with the first reason.
+const NUMBERS: &str = "\
+syn : 0
+request : 0
+syn : 0
+cut D : 1
+zeros 5EB : 2
+syn C 86 : 3
+request 15 2 : 4
+syn E 65 : 5
+syn 19 AD : 6
+syn 14 20 18 42 : 7
+syn 17 1 19 B1 : 8
+syn 2E 40 : 9
+syn 32 80 : A
+summed 27 C : B
+summed 28 23 : C
+syn 5 57 : D
+elsewhere : D
+summed 5 57 : D
+request 29 10 : D
+summed : E
+";
+
+/// What is kept, and the reply.
+const TAKEN: &str = "\
+syn : 0
+is_clean : yes
+request : 0
+is_answered : yes
+";
+
+#[test]
+fn dropped_frames_have_the_first_number(rt: HostRuntime) {
+    play(&rt, &mut Gate::new(rt.alloc()), NUMBERS);
 }
 
 #[test]
-fn an_accepted_syn_is_clean_and_a_request_is_answered(rt: HostRuntime) -> Result<(), Fail> {
-    are_kept_and_answered(&rt, &Accepts(rt.alloc()))
+fn an_accepted_syn_is_clean_and_a_request_is_answered(rt: HostRuntime) {
+    play(&rt, &mut Gate::new(rt.alloc()), TAKEN);
 }
 
 /// An inbox for frames of no bytes, which are known by their indices.
-trait Waits {
-    fn is_empty(&self) -> bool;
-
-    fn len(&self) -> usize;
-    /// Puts a frame, and answers the index of one that is given back.
-    fn put(&mut self, index: u64) -> Option<u64>;
-    /// The index of the oldest frame, which is taken.
-    fn take(&mut self) -> Option<u64>;
-}
-
 #[derive(Drop)]
 struct Waiters {
     alloc: Global,
     inbox: Inbox,
 }
 
-impl Waits for Waiters {
-    fn is_empty(&self) -> bool {
-        self.inbox.is_empty()
+/// What is told of an index.
+fn index_or_none(index: Option<u64>) -> Answer {
+    match index {
+        Some(index) => number(index),
+        None => word("none"),
+    }
+}
+
+impl Waiters {
+    fn new(alloc: Global) -> Result<Waiters, NoMemory> {
+        Ok(Waiters {
+            alloc,
+            inbox: Inbox::new(alloc)?,
+        })
     }
 
-    fn len(&self) -> usize {
-        self.inbox.len()
-    }
-
+    /// Puts a frame, and gives the index of one that is given back.
     fn put(&mut self, index: u64) -> Option<u64> {
         let waiting = Waiting {
             index,
@@ -155,41 +146,64 @@ impl Waits for Waiters {
         }
     }
 
+    /// The index of the oldest frame, which is taken.
     fn take(&mut self) -> Option<u64> {
         let oldest = self.inbox.take()?;
         Some(oldest.index)
     }
-}
 
-/// Asserts that frames with these indices are taken, in order.
-fn are_taken<W: Waits>(rt: &impl Abort, inbox: &mut W, from: u64, to: u64) {
-    for index in from..to {
-        assert_eq!(rt; inbox.take(), Some(index));
+    /// Whether frames with these indices are put, and none is given back.
+    fn are_put(&mut self, from: u32, to: u32) -> bool {
+        for index in from..to {
+            if self.put(u64::from(index)).is_some() {
+                return false;
+            }
+        }
+        true
+    }
+
+    /// Whether frames with these indices are taken, in order.
+    fn are_taken(&mut self, from: u32, to: u32) -> bool {
+        for index in from..to {
+            if self.take() != Some(u64::from(index)) {
+                return false;
+            }
+        }
+        true
     }
 }
 
-/// Fills an inbox and empties it, and asserts what it answers.
-fn is_filled_and_emptied<W: Waits>(rt: &impl Abort, inbox: &mut W) {
-    assert!(rt; inbox.is_empty());
-    for index in 0..4096 {
-        assert_eq!(rt; inbox.put(index), None);
+impl Scene for Waiters {
+    /// `put` answers the index of a frame that is given back, and `take` that of the oldest one;
+    /// `are_put` and `are_taken` have the first index and the one after the last.
+    fn call(&mut self, name: &str, n: &[u32; 6]) -> Answer {
+        match name {
+            "put" => index_or_none(self.put(u64::from(n[0]))),
+            "take" => index_or_none(self.take()),
+            "are_put" => yes_or_no(self.are_put(n[0], n[1])),
+            "are_taken" => yes_or_no(self.are_taken(n[0], n[1])),
+            "length" => number(self.inbox.len() as u64),
+            "is_empty" => yes_or_no(self.inbox.is_empty()),
+            _ => no_such_call(),
+        }
     }
-    assert_eq!(rt; inbox.len(), 4096);
-    assert_eq!(rt; inbox.put(4096), Some(4096));
-    are_taken(rt, inbox, 0, 4095);
-    assert_eq!(rt; inbox.put(4096), None);
-    assert_eq!(rt; inbox.put(4097), None);
-    are_taken(rt, inbox, 4095, 4098);
-    assert_eq!(rt; inbox.take(), None);
 }
+
+/// 4,096 frames wait, and one more is given back.
+const FULL: &str = "\
+is_empty : yes
+are_put 0 1000 : yes
+length : 1000
+put 1000 : 1000
+are_taken 0 FFF : yes
+put 1000 : none
+put 1001 : none
+are_taken FFF 1002 : yes
+take : none
+";
 
 #[test]
 fn a_full_inbox_gives_the_frame_back_and_keeps_its_order(rt: HostRuntime) -> Result<(), Fail> {
-    let alloc = rt.alloc();
-    let mut inbox = Waiters {
-        alloc,
-        inbox: Inbox::new(alloc)?,
-    };
-    is_filled_and_emptied(&rt, &mut inbox);
+    play(&rt, &mut Waiters::new(rt.alloc())?, FULL);
     Ok(())
 }
