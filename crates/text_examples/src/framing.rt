@@ -35,6 +35,10 @@ fn bytes(alloc: Global, words: &str) -> Result<Vec<u8>, Fail> {
 /// A stream that is fed and unframed. No call has a clause, so that what the contracts say stands
 /// in no goal of a test.
 trait Stream {
+    /// One of which nothing was fed.
+    fn start(alloc: Global) -> Self
+    where
+        Self: Sized;
     /// Feeds a short piece to a short stream.
     fn feed(&mut self, piece: &[u8]) -> Result<(), LinkFault>;
     /// Feeds the record of a short frame.
@@ -55,6 +59,13 @@ struct Unframed {
 }
 
 impl Stream for Unframed {
+    fn start(alloc: Global) -> Unframed {
+        Unframed {
+            alloc,
+            unframer: Unframer::new(alloc),
+        }
+    }
+
     fn feed(&mut self, piece: &[u8]) -> Result<(), LinkFault> {
         if self.unframer.fed() > 1_000_000 || piece.len() > 1_000_000 {
             return Err(LinkFault::NoMemory);
@@ -141,8 +152,8 @@ fn is_answered<S: Stream>(stream: &mut S, verb: &str, bytes: &[u8], answer: &str
 }
 
 /// Plays a script, and asserts that each line is answered so.
-fn play_with<S: Stream>(
-    rt: &(impl Abort + AllocGlobal),
+fn play_with<R: Abort + AllocGlobal, S: Stream>(
+    rt: &R,
     stream: &mut S,
     script: &str,
 ) -> Result<(), Fail> {
@@ -156,13 +167,8 @@ fn play_with<S: Stream>(
 }
 
 /// Plays a script with a stream of which nothing was fed.
-fn play(rt: &(impl Abort + AllocGlobal), script: &str) -> Result<(), Fail> {
-    let alloc = rt.alloc();
-    let mut unframed = Unframed {
-        alloc,
-        unframer: Unframer::new(alloc),
-    };
-    play_with(rt, &mut unframed, script)
+fn play<R: Abort + AllocGlobal, S: Stream + Drop>(rt: &R, script: &str) -> Result<(), Fail> {
+    play_with(rt, &mut S::start(rt.alloc()), script)
 }
 
 /// A record of 60 bytes and two bytes of the next.
@@ -210,17 +216,17 @@ next : none
 
 #[test]
 fn a_stream_gives_the_same_frame_however_it_is_cut(rt: HostRuntime) -> Result<(), Fail> {
-    play(&rt, WHOLE)?;
-    play(&rt, CUT)
+    play::<_, Unframed>(&rt, WHOLE)?;
+    play::<_, Unframed>(&rt, CUT)
 }
 
 #[test]
 fn lengths_to_the_limit_are_taken(rt: HostRuntime) -> Result<(), Fail> {
-    play(&rt, LIMIT)?;
-    play(&rt, ABOVE)
+    play::<_, Unframed>(&rt, LIMIT)?;
+    play::<_, Unframed>(&rt, ABOVE)
 }
 
 #[test]
 fn the_frames_before_a_long_one_are_given(rt: HostRuntime) -> Result<(), Fail> {
-    play(&rt, BEFORE_LONG)
+    play::<_, Unframed>(&rt, BEFORE_LONG)
 }

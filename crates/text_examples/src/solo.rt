@@ -32,6 +32,10 @@ fn stream(alloc: Global) -> Result<Frames, NoMemory> {
 /// A machine that runs texts of turns. No call has a clause, so that what the contracts say stands
 /// in no goal of a test.
 trait Machine {
+    /// One that has made no turn.
+    fn start(alloc: Global) -> Result<Self, NoMemory>
+    where
+        Self: Sized;
     /// Runs the turns of a text on the stream.
     fn run(&mut self, text: &[u8]) -> Result<Result<(), SoloFault>, Fail>;
     /// The guest's number in eight bytes, and the last frame that it received.
@@ -50,17 +54,15 @@ struct Single {
     out: Frames,
 }
 
-impl Single {
-    fn new(alloc: Global) -> Result<Single, NoMemory> {
+impl Machine for Single {
+    fn start(alloc: Global) -> Result<Single, NoMemory> {
         Ok(Single {
             alloc,
             guest: guest(alloc)?,
             out: Frames::new(alloc),
         })
     }
-}
 
-impl Machine for Single {
     fn run(&mut self, text: &[u8]) -> Result<Result<(), SoloFault>, Fail> {
         let turns = parse_single(self.alloc, text)?;
         let stream = stream(self.alloc)?;
@@ -84,8 +86,8 @@ impl Machine for Single {
 }
 
 /// Runs the turns of a text to their end, and asserts the guest's number and its last frame.
-fn goes_on<M: Machine>(
-    rt: &(impl Abort + AllocGlobal),
+fn goes_on<R: Abort + AllocGlobal, M: Machine>(
+    rt: &R,
     machine: &mut M,
     text: &[u8],
     number: u64,
@@ -98,8 +100,8 @@ fn goes_on<M: Machine>(
 }
 
 /// Asserts that a run ends before its second turn.
-fn ends_before_its_second_turn<M: Machine>(
-    rt: &impl Abort,
+fn ends_before_its_second_turn<R: Abort, M: Machine>(
+    rt: &R,
     machine: &mut M,
     text: &[u8],
 ) -> Result<(), Fail> {
@@ -117,12 +119,12 @@ fn state_of(alloc: Global, number: u64, frame: &[u8]) -> Result<Vec<u8>, NoMemor
     Ok(bytes)
 }
 
-#[test]
-fn frames_are_given_in_any_order_and_twice(rt: HostRuntime) -> Result<(), Fail> {
-    let mut machine = Single::new(rt.alloc())?;
+/// Asserts what turns leave of which one has an early frame, and two the same.
+fn is_given_any_frames<R: Abort + AllocGlobal, M: Machine + Drop>(rt: &R) -> Result<(), Fail> {
+    let mut machine = M::start(rt.alloc())?;
     // 31 * 0 + 1 is 1, 31 * 1 + 1 is 32, and 31 * 32 + 1 is 993
     goes_on(
-        &rt,
+        rt,
         &mut machine,
         b"T 0 1 0 0\nT 0 0 0 0\nT 0 0 0 0\n",
         993,
@@ -133,14 +135,14 @@ fn frames_are_given_in_any_order_and_twice(rt: HostRuntime) -> Result<(), Fail> 
     Ok(())
 }
 
-#[test]
-fn an_acknowledgement_is_raised_to_the_opening_sent_before(rt: HostRuntime) -> Result<(), Fail> {
-    let mut machine = Single::new(rt.alloc())?;
+/// Asserts which acknowledgement is given before the opening was sent, and after.
+fn is_given_raised<R: Abort + AllocGlobal, M: Machine + Drop>(rt: &R) -> Result<(), Fail> {
+    let mut machine = M::start(rt.alloc())?;
     // no opening was sent yet: 31 * 0 + 1 is 1
-    goes_on(&rt, &mut machine, b"T 0 1/1000/5000 0 0\n", 1, &ACK_5004)?;
+    goes_on(rt, &mut machine, b"T 0 1/1000/5000 0 0\n", 1, &ACK_5004)?;
     // it is sent in one turn, and known in the next: 31 * 1 + 2 is 33, and 31 * 33 + 1 is 1024
     goes_on(
-        &rt,
+        rt,
         &mut machine,
         b"T 1 - 0 0\nT 0 1/1000/5000 0 0\n",
         1024,
@@ -148,23 +150,35 @@ fn an_acknowledgement_is_raised_to_the_opening_sent_before(rt: HostRuntime) -> R
     )?;
     assert_eq!(rt; machine.sent(), 1);
     // and in a run that goes on from it: 31 * 1024 + 1 is 31745
-    goes_on(
-        &rt,
-        &mut machine,
-        b"T 0 1/1000/5000 0 0\n",
-        31745,
-        &ACK_9004,
-    )
+    goes_on(rt, &mut machine, b"T 0 1/1000/5000 0 0\n", 31745, &ACK_9004)
+}
+
+/// Runs of which the second turn has no frame.
+const WITHOUT_FRAME: [&[u8]; 3] = [
+    b"T 1 0 0 0\nT 1 2 0 0\nT 1 - 0 0\n",
+    b"T 1 0 0 0\nT 1 3 0 0\nT 1 - 0 0\n",
+    b"T 1 0 0 0\nT 1 18446744073709551615 0 0\nT 1 - 0 0\n",
+];
+
+/// Asserts that each run without a frame ends before it.
+fn ends_without_frame<R: Abort + AllocGlobal, M: Machine + Drop>(rt: &R) -> Result<(), Fail> {
+    for text in WITHOUT_FRAME {
+        ends_before_its_second_turn(rt, &mut M::start(rt.alloc())?, text)?;
+    }
+    Ok(())
+}
+
+#[test]
+fn frames_are_given_in_any_order_and_twice(rt: HostRuntime) -> Result<(), Fail> {
+    is_given_any_frames::<_, Single>(&rt)
+}
+
+#[test]
+fn an_acknowledgement_is_raised_to_the_opening_sent_before(rt: HostRuntime) -> Result<(), Fail> {
+    is_given_raised::<_, Single>(&rt)
 }
 
 #[test]
 fn a_turn_without_its_frame_ends_the_run_before_it(rt: HostRuntime) -> Result<(), Fail> {
-    for text in [
-        b"T 1 0 0 0\nT 1 2 0 0\nT 1 - 0 0\n".as_slice(),
-        b"T 1 0 0 0\nT 1 3 0 0\nT 1 - 0 0\n".as_slice(),
-        b"T 1 0 0 0\nT 1 18446744073709551615 0 0\nT 1 - 0 0\n".as_slice(),
-    ] {
-        ends_before_its_second_turn(&rt, &mut Single::new(rt.alloc())?, text)?;
-    }
-    Ok(())
+    ends_without_frame::<_, Single>(&rt)
 }

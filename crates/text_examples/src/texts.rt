@@ -64,7 +64,8 @@ const BAD_LOGS: [(&[u8], u64, LineWhy); 14] = [
     (b"k : 0\n! k 1\n! a 4294967296\n", 3, LineWhy::Number),
 ];
 
-/// A kind of text. No call has a clause, so that what the contracts say stands in no goal of a test.
+/// A kind of text. No call has a clause, so that what the contracts say stands in no goal of a
+/// test.
 trait Text {
     /// How many items a text has, and the text as it is written again.
     fn read(&self, text: &[u8]) -> Result<(usize, Vec<u8>), Fail>;
@@ -130,14 +131,14 @@ impl Text for Singles {
 }
 
 /// Asserts that a text is written again as it was read, and answers how many items it has.
-fn count<T: Text>(rt: &impl Abort, kind: &T, text: &[u8]) -> Result<usize, Fail> {
+fn count<R: Abort, T: Text>(rt: &R, kind: &T, text: &[u8]) -> Result<usize, Fail> {
     let (count, again) = kind.read(text)?;
     assert_eq!(rt; again.as_slice(), text);
     Ok(count)
 }
 
 /// Asserts where and why each text is refused.
-fn are_refused<T: Text>(rt: &impl Abort, kind: &T, cases: &[(&[u8], u64, LineWhy)]) {
+fn are_refused<R: Abort, T: Text>(rt: &R, kind: &T, cases: &[(&[u8], u64, LineWhy)]) {
     for (text, line, why) in cases {
         let fault = LineFault::Bad {
             line: *line,
@@ -147,12 +148,32 @@ fn are_refused<T: Text>(rt: &impl Abort, kind: &T, cases: &[(&[u8], u64, LineWhy
     }
 }
 
+/// A line of a schedule.
+fn line_at(alloc: Global, text: &[u8], k: usize) -> Result<Option<Line>, Fail> {
+    Ok(parse_schedule(alloc, text)?.get(k).copied())
+}
+
+/// The answer of a record of a log, and its first mark.
+fn record_at(alloc: Global, text: &[u8], k: usize) -> Result<(Answer, Option<Mark>), Fail> {
+    let records = parse_log(alloc, text)?;
+    let record = records.get(k).ok_or("no record")?;
+    Ok((record.answer, record.marks.as_slice().first().copied()))
+}
+
+/// The frame of the first turn of a single run.
+fn first_frame(alloc: Global, text: &[u8]) -> Result<TurnFrame, Fail> {
+    let turns = parse_single(alloc, text)?;
+    Ok(turns.get(0).ok_or("no turn")?.frame)
+}
+
 #[test]
 fn a_schedule_is_read_and_written(rt: HostRuntime) -> Result<(), Fail> {
     assert_eq!(rt; count(&rt, &Schedules(rt.alloc()), SCHEDULE)?, 8);
     assert_eq!(rt; count(&rt, &Schedules(rt.alloc()), b"")?, 0);
-    let lines = parse_schedule(rt.alloc(), SCHEDULE)?;
-    assert_eq!(rt; lines.get(6), Some(&Line::StopSecondary));
+    assert_eq!(rt;
+        line_at(rt.alloc(), SCHEDULE, 6)?,
+        Some(Line::StopSecondary)
+    );
     Ok(())
 }
 
@@ -160,23 +181,21 @@ fn a_schedule_is_read_and_written(rt: HostRuntime) -> Result<(), Fail> {
 fn a_log_is_read_and_written(rt: HostRuntime) -> Result<(), Fail> {
     assert_eq!(rt; count(&rt, &Logs(rt.alloc()), LOG)?, 23);
     assert_eq!(rt; count(&rt, &Logs(rt.alloc()), b"x s : 0\n")?, 1);
-    let records = parse_log(rt.alloc(), LOG)?;
-    let paused = records.get(9).ok_or("no record")?;
-    assert_eq!(rt; paused.answer, Answer::Nothing);
+    let (paused, mark) = record_at(rt.alloc(), LOG, 9)?;
+    assert_eq!(rt; paused, Answer::Nothing);
     let captured = Mark::Captured {
         e: 1,
         why: Cause::Differ,
     };
-    assert_eq!(rt; paused.marks.as_slice().first(), Some(&captured));
+    assert_eq!(rt; mark, Some(captured));
     Ok(())
 }
 
 #[test]
 fn a_single_run_is_read_and_written(rt: HostRuntime) -> Result<(), Fail> {
     assert_eq!(rt; count(&rt, &Singles(rt.alloc()), SINGLE)?, 3);
-    let turns = parse_single(rt.alloc(), SINGLE)?;
-    let first = turns.get(0).ok_or("no turn")?;
-    assert_eq!(rt; first.frame, TurnFrame::Plain { index: 0 });
+    let first = first_frame(rt.alloc(), SINGLE)?;
+    assert_eq!(rt; first, TurnFrame::Plain { index: 0 });
     Ok(())
 }
 
