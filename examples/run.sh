@@ -65,6 +65,7 @@ cmp ../crates/colo/data/echo.elf out/echo.elf
 if command -v python3 > /dev/null; then
     (cd ../crates/colo/data && "$colo" replay echo.elf disk.img client.bin failover.schedule ../../../examples/out/failover) > out/printed
     python3 echo_failover.py ../crates/colo/data out/failover
+    python3 echo_rounds.py "$colo" out
     python3 sessions.py "$colo" out
     python3 pair_sessions.py "$colo" out
 else
