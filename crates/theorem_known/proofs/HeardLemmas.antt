@@ -38,7 +38,7 @@ use Rattle.theorem_splices.specs.Known.{KnowsSecondary, has_ack}
 use Rattle.theorem_splices.proofs.KnownSteps.{replies_hold_no_ack, told_hold_no_ack}
 use Rattle.theorem_splices.proofs.KnownLemmas.{known_holds}
 use Rattle.theorem_known.specs.Splices.{KnownSplicesEachLog, KnownSplicesOf}
-use Rattle.theorem_known.proofs.Fronts.{each_front}
+use Rattle.theorem_known.proofs.FrontLemmas.{each_front}
 use Rattle.theorem_known.proofs.ItemLemmas.{committed_before, committed_sends, same_before, sent_own, sent_together, trims_own, turn_items}
 
 -- Whether a commit is unheard of; what is known of the secondary, what it had sent at its last commit, and what the
@@ -112,7 +112,7 @@ turned_counts past d i b n made items h =
     (more_up past.to_primary (map Sent (counted_frames made.output)) (told_hold_no_ack (counted_frames made.output)))
     refl (before_sent past.secondary.items made.run.items (segments made.output) items) refl refl h
 
-trims_counts : (b : Bool) (items : List Item) (w : Waiting)
+pub trims_counts : (b : Bool) (items : List Item) (w : Waiting)
     → sent_of (if b then items else items ++ trims_by w) ≡ sent_of items
 trims_counts true items w = refl
 trims_counts false items w = sent_of-trims items w

@@ -1,4 +1,9 @@
-pub mod Fronts
+pub mod BelowLemmas
+pub mod BothRight
+pub mod CutLemmas
+pub mod FrontLemmas
 pub mod HeardLemmas
 pub mod ItemLemmas
 pub mod PauseLemmas
+pub mod StandsEvents
+pub mod StandsLogs

@@ -2,8 +2,10 @@
 //! pair's definitions. A crate of laws: its functions do nothing.
 #![tactic(auto)]
 
+mod fronts;
 mod pauses;
 mod splices;
 
+pub use fronts::fronts_of_each_log;
 pub use pauses::pauses_of_each_log;
 pub use splices::known_splices_each_log;

@@ -59,10 +59,10 @@ pub record EventRight (a : Start) (released : List Released) (o : Outcome) : Typ
       (places_after a o.after released o.step.released)
 
 -- PROGRESS that shows the same
-abbrev SameShown : ProgressTable → ProgressTable → Type 0
+abbrev pub SameShown : ProgressTable → ProgressTable → Type 0
 SameShown old new = (t : Tuple) → (progress_of t new).shown ≡ (progress_of t old).shown
 
-shown_alike : (a : Start) (released : List Released) (old new : ProgressTable) → SameShown old new →
+pub shown_alike : (a : Start) (released : List Released) (old new : ProgressTable) → SameShown old new →
     SynsAreShown a released old → SynsAreShown a released new
 shown_alike a released old new same h t o e = h t o (sym (same t) ∙ e)
 
@@ -85,7 +85,7 @@ put_alike u p table e t = by (same_tuple u t) refl
         (same_tuple-eq u t same) (ap (λ (q : Progress). q.shown) (progress_same u p table) ∙ e)
     by false other = ap (λ (q : Progress). q.shown) (progress_other u t p table other)
 
-own_alike : (own : OwnFrames) (xs : List TcpFields) → SameShown own.progress (fold own_after own xs).progress
+pub own_alike : (own : OwnFrames) (xs : List TcpFields) → SameShown own.progress (fold own_after own xs).progress
 own_alike own [] t = refl
 own_alike own (s ∷ xs) t =
     let u = (took_after own.items s).tuple in
@@ -95,7 +95,7 @@ own_alike own (s ∷ xs) t =
     (with_shown what (progress_of u own.progress)) t
 
 -- THE LINES of the past after an event
-clients_are : (past : Past) (items : List Item) → releasing_items past ≡ items → (t : Tuple) →
+pub clients_are : (past : Past) (items : List Item) → releasing_items past ≡ items → (t : Tuple) →
     current_client past t ≡ option_map (λ (o : Opening). o.client) (line t items).opening
 unfolding current_client
 clients_are past items e t =

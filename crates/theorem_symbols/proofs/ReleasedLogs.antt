@@ -60,7 +60,7 @@ event_right a start steps past x r shown =
 shown_first : (a : Start) → SynsAreShown a [] a.progress
 shown_first a t o e = ap (option_map (λ (q : Opening). q.own)) e
 
-shown_reached : (a : Start) → IsStart a → (steps : List Step) (past : Past) → Reached Fits a steps past →
+pub shown_reached : (a : Start) → IsStart a → (steps : List Step) (past : Past) → Reached Fits a steps past →
     SynsAreShown a (released_by steps) past.progress
 shown_reached a start steps past begins = shown_first a
 shown_reached a start steps past (goes before old x h fits) =
@@ -116,7 +116,7 @@ more_right old new more ps e h =
       acks = (places_go_on old more p).acks g.acks;
     }) ps h)
 
-places_push : (a : Start) (steps : List Step) (past : Past) (x : Line) → Reached Fits a steps past →
+pub places_push : (a : Start) (steps : List Step) (past : Past) (x : Line) → Reached Fits a steps past →
     places a (steps ++ (outcome_of a.kind a.stream past x).step ∷ [])
     ≡ places a steps ++ event_places a (event_after a steps past x)
 unfolding places
