@@ -4,3 +4,6 @@ pub mod MixLemmas
 pub mod PlaceLemmas
 pub mod CauseLemmas
 pub mod RestLemmas
+pub mod TouchedLemmas
+pub mod SettleLemmas
+pub mod KeepLemmas

@@ -3,3 +3,5 @@ pub mod Ages
 pub mod Places
 pub mod Firsts
 pub mod Laws
+pub mod TouchedPlaces
+pub mod Keep
