@@ -1,0 +1,5 @@
+//! Worked examples of the real link and the real clock.
+#![tactic(auto)]
+
+#[cfg(test)]
+mod live;
