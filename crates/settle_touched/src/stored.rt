@@ -33,8 +33,10 @@ impl Stored {
 
     /// Notes the turn from which on a connection waits, where its age begins anew in it.
     pub(crate) fn note_age(&mut self, is_turn: bool, turns: u64)
-        ensures { self.new ≡ record self.old { since =
-            if is_turn && self.old.progress.age == 1 then turns else self.old.since } }
+        ensures { self.new ≡ record self.old {
+          since =
+              if is_turn && self.old.progress.age == 1 then turns else self.old.since;
+        } }
     {
         if is_turn && self.progress.age() == 1 {
             self.since = turns;
