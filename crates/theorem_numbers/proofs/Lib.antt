@@ -1,0 +1,5 @@
+pub mod ClientLemmas
+pub mod KeepingLemmas
+pub mod NumberLogs
+pub mod SynEvents
+pub mod SynLemmas
