@@ -16,7 +16,3 @@ hexadecimal n = if n == 0 then digit_zero ∷ [] else map glyph (digits_of 16 n)
 unfoldable pub hexadecimal_digits : ℕ → ℕ → List ℕ
 hexadecimal_digits zero n = []
 hexadecimal_digits (suc count) n = hexadecimal_digits count (n / 16) ++ glyph (n % 16) ∷ []
-
--- what was there before still stands in front
-abbrev pub Begins : List ℕ → List ℕ → Type 0
-Begins old new = (more : List ℕ) × (new ≡ old ++ more)

@@ -2,7 +2,8 @@
 
 ghost use Rattle.std.specs.Prelude.{◌≡◌, ◌≤◌, ◌<◌, ◌++◌, OnOk, OnErr, decimal};
 ghost use Rattle.std.specs.String.{string_bytes};
-ghost use Rattle.ascii_text.specs.Hexadecimal.{glyph, hexadecimal, hexadecimal_digits, Begins};
+ghost use Rattle.ascii_text.specs.Hexadecimal.{glyph, hexadecimal, hexadecimal_digits};
+ghost use Rattle.shared_definitions.specs.Begins.{Begins};
 
 use itoa::Buffer;
 use std::alloc::AllocError;

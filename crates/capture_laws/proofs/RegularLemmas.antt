@@ -8,11 +8,11 @@ use Rattle.inet_frame.specs.Counted.{counted, tuple_of}
 use Rattle.inet_frame.specs.Fields.{TcpFields}
 use Rattle.inet_frame.specs.Flags.{has_ack, has_fin, has_rst}
 use Rattle.inet_frame.specs.declared.tuple.Tuple.{Tuple}
-use Rattle.tcp_track.specs.LineFields.{IsWithin, LineFields, bytes_end, cut, end_of, fields_acked, fields_after, fields_opened, fields_refused, fields_reset, fields_trimmed, fields_with, grown, grows, no_fields}
+use Rattle.tcp_track.specs.LineFields.{IsWithin, LineFields, bytes_end, cut, end_of, fields_acked, fields_after, fields_opened, fields_refused, fields_reset, fields_trimmed, fields_with, grow_fields, grows, no_fields}
 use Rattle.tcp_track.specs.Offsets.{distance}
 use Rattle.tcp_track.specs.Segments.{is_refusal, may_open, opening_in, opens_anew, refused_in, same_tuple, start_of}
 use Rattle.tcp_track.specs.Stands.{acked_after, is_of_client}
-use Rattle.tcp_track.specs.Tracking.{Tracking, commit_entry, committed, entries_after, entry_of, entry_or_none, no_entry, nothing_tracked, put_entry, taken, tracking_after, tracking_with, trim_entry, trimmed}
+use Rattle.tcp_track.specs.Tracking.{Tracking, commit_entry, commit_tracking, entries_after, entry_of, entry_or_none, no_entry, nothing_tracked, put_entry, taken, tracking_after, tracking_with, trim_entry, trim_tracking}
 use Rattle.tcp_track.specs.declared.openings.Opening.{Opening}
 use Rattle.tcp_track.specs.declared.table.Entry.{Entry}
 use Rattle.tcp_track.proofs.GrowthLemmas.{growth_fits}
@@ -164,7 +164,7 @@ plain_after s l plain = by (is_refusal s) (has_rst s.flags) (opens_anew l.openin
     reset is = λ i. fields_reset (plain is i)
 
     same_opening : (o : Opening) (b : Bool)
-        → (fields_acked (if b then grown l (start_of o.own s) s else l) o s).opening ≡ l.opening
+        → (fields_acked (if b then grow_fields l (start_of o.own s) s else l) o s).opening ≡ l.opening
     same_opening o true = refl
     same_opening o false = refl
 
@@ -215,7 +215,7 @@ abbrev one_if : Bool → ℕ
 one_if b = if b then 1 else 0
 
 grown_low : (l : LineFields) (o : Opening) (s : TcpFields) → IsWithin l → grows l o.own s ≡ true
-    → end_of (grown l (start_of o.own s) s) < 2147483648
+    → end_of (grow_fields l (start_of o.own s) s) < 2147483648
 grown_low l o s within h =
     by (nat_le (bytes_end l - start_of o.own s) (length s.payload)) refl
   where
@@ -261,8 +261,8 @@ within_goes l s None is within = within
 within_goes l s (Some o) is within = by (grows l o.own s) refl
   where
     by : (b : Bool) → grows l o.own s ≡ b
-        → IsWithin (fields_acked (if b then grown l (start_of o.own s) s else l) o s)
-    by true e = within_acked l (grown l (start_of o.own s) s) o s is refl (grown_low l o s within e) refl within
+        → IsWithin (fields_acked (if b then grow_fields l (start_of o.own s) s else l) o s)
+    by true e = within_acked l (grow_fields l (start_of o.own s) s) o s is refl (grown_low l o s within e) refl within
     by false e = within_acked l l o s is refl within.end refl within
 
 within_after : (s : TcpFields) (l : LineFields) → IsWithin l → IsWithin (fields_after l s)
@@ -342,8 +342,8 @@ takes_regularly lines frame h = by (counted frame)
     }
 
 pub trims_regularly : (lines : Tracking) (t : Tuple) (client to : ℕ) → AreCapturable lines
-    → AreCapturable (trimmed lines t client to)
-unfolding trimmed
+    → AreCapturable (trim_tracking lines t client to)
+unfolding trim_tracking
 trims_regularly lines t client to h = record {
   regular = record {
     distinct = distinct_trimmed lines.entries t client to h.regular.distinct;
@@ -352,7 +352,7 @@ trims_regularly lines t client to h = record {
   within = lines_trimmed IsWithin lines.entries t client to none_within (within_trimmed client to) h.within;
 }
 
-pub commits_regularly : (lines : Tracking) → AreCapturable lines → AreCapturable (committed lines)
+pub commits_regularly : (lines : Tracking) → AreCapturable lines → AreCapturable (commit_tracking lines)
 commits_regularly lines h = record {
   regular = record {
     distinct = subst AreDistinct (sym (keys_committed lines.entries)) h.regular.distinct;

@@ -7,7 +7,7 @@ use Rattle.std.proofs.lemmas.List.{append-nil}
 use Rattle.inet_frame.specs.declared.tuple.Tuple.{Tuple}
 use Rattle.tcp_track.specs.LineFields.{LineFields}
 use Rattle.tcp_track.specs.Segments.{same_tuple}
-use Rattle.tcp_track.specs.Tracking.{Tracking, commit_entry, committed, entry_of, no_entry, nothing_tracked}
+use Rattle.tcp_track.specs.Tracking.{Tracking, commit_entry, commit_tracking, entry_of, no_entry, nothing_tracked}
 use Rattle.tcp_track.specs.declared.table.Entry.{Entry}
 use Rattle.tcp_track.proofs.TupleLemmas.{lookup-push_other}
 use Rattle.checkpoint_form.specs.Captured.{lines_of}
@@ -94,7 +94,7 @@ lines_left : (ms : List Message) → AllByRecursion LeavesLines ms → (k : Kept
 lines_left [] h k = refl
 lines_left (m ∷ ms) h k = lines_left ms h.1 (keep k m) ∙ h.0 k
 
-pub keeps_the_lines : (x : Capture) (e : ℕ) → AreRegular x.lines → kept_lines (kept_of x e) ≡ committed x.lines
+pub keeps_the_lines : (x : Capture) (e : ℕ) → AreRegular x.lines → kept_lines (kept_of x e) ≡ commit_tracking x.lines
 unfolding keep_all
 keeps_the_lines x e regular =
     let k = begin_kept x.state.bytes (length x.state.pages) (length x.state.sectors) in
@@ -111,7 +111,7 @@ keeps_the_lines x e regular =
     (all_map LeavesLines (λ (p : ℕ × List ℕ). Page p.0 p.1) (enumerate_from 0 x.state.pages) (λ y q. refl)) k in
     let differ : KeysDiffer xs = subst AreDistinct (sym (keys_same x.lines.entries)) regular.distinct in
     ap kept_lines (parts_split x e k)
-    ∙ ap committed (entries_kept x.numbers xs held (plain_lines x.lines.entries regular.plain)
+    ∙ ap commit_tracking (entries_kept x.numbers xs held (plain_lines x.lines.entries regular.plain)
     ∙ ap (λ (y : Tracking). fold put_line y xs) none
     ∙ put_all [] xs (all_new xs) differ)
     ∙ ap (λ (es : List (Tuple × Entry)). record nothing_tracked { entries = es }) (commits_same x.lines.entries)

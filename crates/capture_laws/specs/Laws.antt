@@ -1,7 +1,7 @@
 -- What a capture sends is kept as it was captured.
 use Rattle.std.specs.Prelude.{◌≡◌, ℕ, List, [], ◌∷◌, ◌++◌, fold, length}
 use Rattle.inet_frame.specs.declared.tuple.Tuple.{Tuple}
-use Rattle.tcp_track.specs.Tracking.{Tracking, committed, nothing_tracked, taken, trimmed}
+use Rattle.tcp_track.specs.Tracking.{Tracking, commit_tracking, nothing_tracked, taken, trim_tracking}
 use Rattle.seq_rewriter.specs.Kept.{number_of}
 use Rattle.state_wire.specs.Guest.{Kind, Meaning}
 use Rattle.checkpoint_capture.specs.Sizes.{HaveSize}
@@ -52,7 +52,7 @@ KeepsTheInbox = (x : Capture) (e : ℕ) → (kept_of x e).inbox ≡ x.inbox
 -- all that holds of a tracker holds of one that a checkpoint put back, restarts included.
 abbrev pub KeepsTheLines : Type 0
 KeepsTheLines =
-    (x : Capture) (e : ℕ) → AreRegular x.lines → kept_lines (kept_of x e) ≡ committed x.lines
+    (x : Capture) (e : ℕ) → AreRegular x.lines → kept_lines (kept_of x e) ≡ commit_tracking x.lines
 
 -- For each client of each tuple the kept number is the captured one.
 abbrev pub KeepsTheNumbers : Type 0
@@ -73,10 +73,10 @@ TakesCapturably =
 abbrev pub TrimsCapturably : Type 0
 TrimsCapturably =
     (lines : Tracking) (t : Tuple) (client to : ℕ) → AreCapturable lines →
-    AreCapturable (trimmed lines t client to)
+    AreCapturable (trim_tracking lines t client to)
 
 abbrev pub CommitsCapturably : Type 0
-CommitsCapturably = (lines : Tracking) → AreCapturable lines → AreCapturable (committed lines)
+CommitsCapturably = (lines : Tracking) → AreCapturable lines → AreCapturable (commit_tracking lines)
 
 abbrev pub KeepsCapturably : Type 0
 KeepsCapturably =

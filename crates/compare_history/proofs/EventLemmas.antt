@@ -16,7 +16,7 @@ use Rattle.colo_wire.specs.declared.messages.Message.{Message}
 use Rattle.frame_mirror.specs.declared.ring.Waiting.{Waiting}
 use Rattle.out_compare.specs.Comparing.{Comparing, take_own, take_heard, learn, leave_alone}
 use Rattle.out_compare.specs.Comparing as comparer
-use Rattle.out_compare.specs.Look.{look, looked}
+use Rattle.out_compare.specs.Look.{look, look_after}
 use Rattle.pair_theorem.specs.Checkpoint.{capture}
 use Rattle.pair_theorem.specs.ClientFrames.{trim_items, trims_by}
 use Rattle.settle_rules.specs.Look.{Look, look_with}
@@ -291,11 +291,11 @@ primary_looks past frame s x e not_second h =
     record {
       seen = a.seen;
       trim_is = a.trim_is;
-      accepted = primary_accepts past (trims_by (looked_frame past frame)) (looked x s)
+      accepted = primary_accepts past (trims_by (looked_frame past frame)) (look_after x s)
           (subst (λ (trims : List Item). StandsFor (record (primary_books past) {
             mine = past.primary.items ++ trims;
             theirs = past.known_items ++ trims;
-          }) (looked x s)) a.trims looks.after);
+          }) (look_after x s)) a.trims looks.after);
     }
 
 pub survivor_looks : SurvivorLooks
@@ -313,9 +313,9 @@ survivor_looks past frame s x e second h =
       accepted = alone_any (record (survivor_books past) {
         mine = past.secondary.items ++ trims;
         theirs = past.known_items ++ trims;
-      }) past.known_items (looked x s) alone
+      }) past.known_items (look_after x s) alone
           (subst (λ (items : List Item). StandsFor (record (survivor_books past) {
             mine = past.secondary.items ++ items;
             theirs = past.known_items ++ items;
-          }) (looked x s)) a.trims looks.after);
+          }) (look_after x s)) a.trims looks.after);
     }

@@ -10,7 +10,7 @@ use Rattle.state_wire.specs.Guest.{GuestState, Kind}
 use Rattle.frame_mirror.specs.declared.ring.Waiting.{Waiting}
 use Rattle.out_compare.specs.Comparing.{Comparing, nothing_compared, take_own, take_heard, learn, settlement_of, need_after, settle, leave_alone}
 use Rattle.out_compare.specs.Comparing as comparer
-use Rattle.out_compare.specs.Look.{look, looked}
+use Rattle.out_compare.specs.Look.{look, look_after}
 use Rattle.out_compare.specs.Surviving.{survive, survivor}
 use Rattle.pair_theorem.specs.Checkpoint.{capture}
 use Rattle.pair_theorem.specs.ClientFrames.{trims_by}
@@ -115,7 +115,7 @@ pub record LooksWith (past after : Past) (frame : List ℕ) (s : TcpFields) (boo
     (x : Comparing) : Type 0 where
   pub seen : (look x s).seen ≡ (look_at past (tcp_in frame)).seen
   pub trim_is : (look x s).trim ≡ (look_at past (tcp_in frame)).trim
-  pub accepted : StandsFor (books after) (looked x s)
+  pub accepted : StandsFor (books after) (look_after x s)
 
 abbrev pub PrimaryLooks : Type 0
 PrimaryLooks =

@@ -18,7 +18,7 @@ use Rattle.tcp_track.specs.declared.table.Entry.{Entry}
 use Rattle.tcp_track.proofs.TupleLemmas.{is_some-lookup, same_tuple-eq}
 use Rattle.settle_rules.specs.Matching.{BothLines}
 use Rattle.settle_rules.specs.OwnFrames.{progress_with}
-use Rattle.settle_rules.specs.Progress.{AgeKey, Progress, ProgressTable, clear_ages, longest_wait, no_progress, older}
+use Rattle.settle_rules.specs.Progress.{AgeKey, Progress, ProgressTable, clear_ages, longest_wait, no_progress, grow_age}
 use Rattle.settle_rules.specs.Matching.{client_or_zero}
 use Rattle.settle_rules.specs.Release.{Released, release_refusal}
 use Rattle.settle_rules.specs.Settle.{Settlement, new_edge, rest_one, same_age_key, settle_one, settle_or_rest, shown_after}
@@ -254,7 +254,7 @@ same_age_key-eq k l h =
     λ i. record { client = client i; matched = matched i; acked = acked i }
 
 -- one turn more in a row
-one_more : (age row : ℕ) → age ≡ min row (longest_wait + 1) → older age ≡ min (suc row) (longest_wait + 1)
+one_more : (age row : ℕ) → age ≡ min row (longest_wait + 1) → grow_age age ≡ min (suc row) (longest_wait + 1)
 one_more age row e = omega (arith, e)
 
 row_not : (s : Sight) (earlier : List Sight) (key : AgeKey) → same_age_key s.key key ≡ false →
@@ -263,35 +263,36 @@ row_not s earlier key h = ap (λ (b : Bool). if b then suc (turns_in_a_row key e
     (and_right s.unmatched (same_age_key s.key key) h)
 
 aged_turn : (p : Progress) (sights : List Sight) (key : AgeKey) → Aged p sights →
-    (if same_age_key p.age_key key then older p.age else 1) ≡ min (suc (turns_in_a_row key sights)) (longest_wait + 1)
+    (if same_age_key p.age_key key then grow_age p.age else 1)
+    ≡ min (suc (turns_in_a_row key sights)) (longest_wait + 1)
 aged_turn p [] key h = by (same_age_key p.age_key key)
   where
-    by : (b : Bool) → (if b then older p.age else 1) ≡ 1
+    by : (b : Bool) → (if b then grow_age p.age else 1) ≡ 1
     by true = one_more p.age 0 h.age
     by false = refl
 aged_turn p (s ∷ earlier) key h = by (same_age_key s.key key) refl
     (ap (λ (k : AgeKey). same_age_key k key) h.key)
   where
     by : (b : Bool) → same_age_key s.key key ≡ b → same_age_key p.age_key key ≡ same_age_key s.key key →
-        (if same_age_key p.age_key key then older p.age else 1)
+        (if same_age_key p.age_key key then grow_age p.age else 1)
         ≡ min (suc (turns_in_a_row key (s ∷ earlier))) (longest_wait + 1)
     by true e f =
-        ap (λ (b : Bool). if b then older p.age else 1) (f ∙ e)
+        ap (λ (b : Bool). if b then grow_age p.age else 1) (f ∙ e)
         ∙ one_more p.age (turns_in_a_row key (s ∷ earlier))
         (h.age ∙ ap (λ (k : AgeKey). min (turns_in_a_row k (s ∷ earlier))
         (longest_wait + 1)) (same_age_key-eq s.key key e))
     by false e f =
-        ap (λ (b : Bool). if b then older p.age else 1) (f ∙ e)
+        ap (λ (b : Bool). if b then grow_age p.age else 1) (f ∙ e)
         ∙ sym (ap (λ (n : ℕ). min (suc n) (longest_wait + 1)) (row_not s earlier key e))
 
 aged_sight : (p : Progress) (sights : List Sight) (s : Sight) → Aged p sights →
-    (if s.unmatched then (if same_age_key p.age_key s.key then older p.age else 1) else 0)
+    (if s.unmatched then (if same_age_key p.age_key s.key then grow_age p.age else 1) else 0)
     ≡ min (turns_waited (s ∷ sights)) (longest_wait + 1)
 aged_sight p sights s h = by s.unmatched
     ∙ sym (ap (λ (b : Bool). min (if s.unmatched && b then suc (turns_in_a_row s.key sights) else 0) (longest_wait + 1))
     (same_age_key-refl s.key))
   where
-    by : (b : Bool) → (if b then (if same_age_key p.age_key s.key then older p.age else 1) else 0)
+    by : (b : Bool) → (if b then (if same_age_key p.age_key s.key then grow_age p.age else 1) else 0)
         ≡ min (if b && true then suc (turns_in_a_row s.key sights) else 0) (longest_wait + 1)
     by true = aged_turn p sights s.key h
     by false = refl

@@ -11,13 +11,13 @@ use Rattle.inet_frame.specs.declared.tuple.Tuple.{Tuple}
 use Rattle.tcp_track.specs.Laws.{Call, commits, call_after, item_of, items_of, tracking_of, IsHeld}
 use Rattle.tcp_track.specs.Lines.{Item, sent, commit, sent_of, line}
 use Rattle.tcp_track.specs.Stands.{opening_of, segments}
-use Rattle.tcp_track.specs.Tracking.{Tracking, nothing_tracked, line_at, current_at, committed}
+use Rattle.tcp_track.specs.Tracking.{Tracking, nothing_tracked, line_at, current_at, commit_tracking}
 use Rattle.tcp_track.specs.declared.openings.Opening.{Opening}
 use Rattle.tcp_track.proofs.OrderLemmas.{keeps_the_order}
 use Rattle.tcp_track.proofs.StandingLemmas.{keeps_each_line, opening_of_line}
 use Rattle.tcp_track.proofs.SymbolLemmas.{line_fits}
 use Rattle.out_compare.specs.Comparing.{Comparing, nothing_compared, take_own, take_heard, learn, settle, capture, acknowledge, leave_alone}
-use Rattle.out_compare.specs.Look.{look, trimmed_look, looked}
+use Rattle.out_compare.specs.Look.{look, trimmed_look, look_after}
 use Rattle.compare_laws.specs.Calls.{CompareCall, sends, hears, learns, settles, looks, captures, acknowledges, remains, compare_after, compare_calls, comparing_of, frames_sent, trim_in, own_call, own_calls, own_items, heard_call, heard_calls, heard_items, has_acknowledgement}
 use Rattle.compare_laws.specs.Laws.{KeepsOwnLines, TakesEachFrame, KeepsOwnOrder, GoesOn, KnowsWhatWasHeard, HearsEachFrame, KnowsACopy}
 
@@ -79,8 +79,8 @@ own_sends x (hears frame ∷ calls) = own_sends (take_heard x frame) calls
 own_sends x (learns t client number ∷ calls) = own_sends (learn x t client number) calls
 own_sends x (settles is_turn ∷ calls) = own_sends (settle x is_turn) calls
 own_sends x (looks s ∷ calls) =
-    trim_sends (client_tuple_of s) (look x s).seen (look x s).trim (own_calls (looked x s) calls)
-    ∙ own_sends (looked x s) calls
+    trim_sends (client_tuple_of s) (look x s).seen (look x s).trim (own_calls (look_after x s) calls)
+    ∙ own_sends (look_after x s) calls
 own_sends x (captures ∷ calls) = own_sends (capture x) calls
 own_sends x (acknowledges ∷ calls) = own_sends (acknowledge x) calls
 own_sends x (remains ∷ calls) = own_sends (leave_alone x) calls
@@ -91,7 +91,7 @@ takes_each_frame calls = own_sends nothing_compared calls
 -- THE KNOWN LINES
 
 heard_look : (x : Comparing) (s : TcpFields) →
-    (looked x s).theirs ≡ fold call_after x.theirs (heard_call x (looks s))
+    (look_after x s).theirs ≡ fold call_after x.theirs (heard_call x (looks s))
 unfolding look
 heard_look x s = look_hears x.mine x.theirs s _ _
 
@@ -104,9 +104,9 @@ heard_fold x (hears frame ∷ calls) h = heard_fold (take_heard x frame) calls h
 heard_fold x (learns t client number ∷ calls) h = heard_fold (learn x t client number) calls h
 heard_fold x (settles is_turn ∷ calls) h = heard_fold (settle x is_turn) calls h
 heard_fold x (looks s ∷ calls) h =
-    heard_fold (looked x s) calls h
-    ∙ ap (λ (m : Tracking). fold call_after m (heard_calls (looked x s) calls)) (heard_look x s)
-    ∙ sym (fold-append call_after x.theirs (heard_call x (looks s)) (heard_calls (looked x s) calls))
+    heard_fold (look_after x s) calls h
+    ∙ ap (λ (m : Tracking). fold call_after m (heard_calls (look_after x s) calls)) (heard_look x s)
+    ∙ sym (fold-append call_after x.theirs (heard_call x (looks s)) (heard_calls (look_after x s) calls))
 heard_fold x (captures ∷ calls) h = heard_fold (capture x) calls h
 heard_fold x (acknowledges ∷ calls) h = absurd (true≢false h)
 heard_fold x (remains ∷ calls) h = heard_fold (leave_alone x) calls h
@@ -119,8 +119,8 @@ hears_each_frame x (hears frame ∷ calls) =
 hears_each_frame x (learns t client number ∷ calls) = hears_each_frame (learn x t client number) calls
 hears_each_frame x (settles is_turn ∷ calls) = hears_each_frame (settle x is_turn) calls
 hears_each_frame x (looks s ∷ calls) =
-    trim_sends (client_tuple_of s) (look x s).seen (look x s).trim (heard_calls (looked x s) calls)
-    ∙ hears_each_frame (looked x s) calls
+    trim_sends (client_tuple_of s) (look x s).seen (look x s).trim (heard_calls (look_after x s) calls)
+    ∙ hears_each_frame (look_after x s) calls
 hears_each_frame x (captures ∷ calls) = hears_each_frame (capture x) calls
 hears_each_frame x (acknowledges ∷ calls) = hears_each_frame (acknowledge x) calls
 hears_each_frame x (remains ∷ calls) = hears_each_frame (leave_alone x) calls
@@ -142,7 +142,7 @@ copied before later h =
     let told = heard_calls (acknowledge (comparing_of before)) later in
     ap (λ (x : Comparing). x.theirs) (fold-append compare_after nothing_compared before (acknowledges ∷ later))
     ∙ heard_fold (acknowledge (comparing_of before)) later h
-    ∙ ap (λ (m : Tracking). fold call_after (committed m) told) (goes_on nothing_compared before)
+    ∙ ap (λ (m : Tracking). fold call_after (commit_tracking m) told) (goes_on nothing_compared before)
     ∙ sym (fold-append call_after nothing_tracked (own_calls nothing_compared before) (commits ∷ told))
 
 copied_items : (before later : List CompareCall) →

@@ -11,7 +11,7 @@ use Rattle.inet_frame.specs.declared.tuple.Tuple.{Tuple}
 use Rattle.tcp_track.specs.Laws.{Call, takes, trims, commits, call_after}
 use Rattle.tcp_track.specs.LineFields.{LineFields, fields_after}
 use Rattle.tcp_track.specs.Segments.{is_refusal, may_open, same_tuple}
-use Rattle.tcp_track.specs.Tracking.{Tracking, commit_entry, entry_of, entry_or_none, line_at, nothing_tracked, put_entry, taken, tracking_after, tracking_with, trim_entry, trimmed}
+use Rattle.tcp_track.specs.Tracking.{Tracking, commit_entry, entry_of, entry_or_none, line_at, nothing_tracked, put_entry, taken, tracking_after, tracking_with, trim_entry, trim_tracking}
 use Rattle.tcp_track.specs.declared.openings.Opening.{Opening}
 use Rattle.tcp_track.specs.declared.table.Entry.{Entry}
 use Rattle.tcp_track.proofs.StandingLemmas.{same_tuple-sym}
@@ -74,8 +74,8 @@ distinct_taken m frame d = by (counted frame)
     by (Some s) = put s (is_some (entry_of m.entries (tuple_of s)) || (may_open s || is_refusal s))
 
 distinct_trimmed : (m : Tracking) (u : Tuple) (client to : ℕ) → AreDistinct m.entries →
-    AreDistinct (trimmed m u client to).entries
-unfolding trimmed
+    AreDistinct (trim_tracking m u client to).entries
+unfolding trim_tracking
 distinct_trimmed m u client to d = by (entry_of m.entries u)
   where
     by : (o : Option Entry) → AreDistinct (trim_entry o m.entries u client to)

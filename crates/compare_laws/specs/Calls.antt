@@ -12,7 +12,7 @@ use Rattle.tcp_track.specs.declared.openings.Opening.{Opening}
 use Rattle.seq_rewriter.specs.Kept.{KeptNumbers}
 use Rattle.settle_rules.specs.Numbers.{KeptNumber, new_number, learn_number, learn_all, thin}
 use Rattle.out_compare.specs.Comparing.{Comparing, nothing_compared, take_own, take_heard, learn, settle, capture, acknowledge, leave_alone}
-use Rattle.out_compare.specs.Look.{look, looked}
+use Rattle.out_compare.specs.Look.{look, look_after}
 
 -- the calls `primary`, `secondary`, `known`, `settle`, `client`, `captured`, `acknowledged` and
 -- `alone`, with what each is given
@@ -32,7 +32,7 @@ compare_after x (sends frame) = take_own x frame
 compare_after x (hears frame) = take_heard x frame
 compare_after x (learns t client number) = learn x t client number
 compare_after x (settles is_turn) = settle x is_turn
-compare_after x (looks s) = looked x s
+compare_after x (looks s) = look_after x s
 compare_after x captures = capture x
 compare_after x acknowledges = acknowledge x
 compare_after x remains = leave_alone x

@@ -7,7 +7,7 @@ ghost use Rattle.elf_load.specs.Boot.{boot_memory, elf_case};
 ghost use Rattle.elf_load.specs.Elf.{entry_of};
 ghost use Rattle.machine_bytes.specs.Legal.{IsLegal};
 ghost use Rattle.state_wire.specs.Guest.{BeginsWith, CanReceive, IsFrame, KeepsKind, after_turn, sent_in, turn_of, with_bytes};
-ghost use Rattle.virtio_net.specs.Send.{Begins};
+ghost use Rattle.shared_definitions.specs.Begins.{Begins};
 ghost use Rattle.guest_machine.specs.Boot.{HasNumber, IsCaseOf, boot_state};
 ghost use Rattle.guest_machine.specs.Guest.{accepts_frame, fields_of, guest_state, machine_meaning, platform_of, state_in};
 ghost use Rattle.guest_machine.specs.Kinds.{KeepsSizes};

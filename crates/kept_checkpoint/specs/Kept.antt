@@ -3,7 +3,7 @@
 use Rattle.std.specs.Prelude.{◌≡◌, ℕ, ◌+◌, ◌/◌, Bool, false, ◌&&◌, nat_le, nat_lt, if◌then◌else◌, List, [], ◌∷◌, ◌++◌, fold, length, Option, None, Some, ⊤}
 use Rattle.std.specs.Option.{option_map}
 use Rattle.inet_frame.specs.declared.tuple.Tuple.{Tuple}
-use Rattle.tcp_track.specs.Tracking.{Tracking, committed, nothing_tracked, with_line}
+use Rattle.tcp_track.specs.Tracking.{Tracking, commit_tracking, nothing_tracked, with_line}
 use Rattle.seq_rewriter.specs.Kept.{KeptNumbers, keep_number}
 use Rattle.frame_mirror.specs.Accepted.{is_accepted}
 use Rattle.frame_mirror.specs.Inboxes.{AreAccepted}
@@ -124,4 +124,4 @@ load_kept g kept = record g {
 
 -- the lines, of which the current openings are those of the commit
 abbrev pub kept_lines : Kept → Tracking
-kept_lines kept = committed (close_lines kept.lines kept.last)
+kept_lines kept = commit_tracking (close_lines kept.lines kept.last)

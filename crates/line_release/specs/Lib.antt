@@ -1,4 +1,3 @@
 pub mod Whole
 pub mod Both
-pub mod Prefix
 pub mod PieceSegment

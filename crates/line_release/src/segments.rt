@@ -4,7 +4,7 @@ ghost use Rattle.std.specs.Prelude.{◌≡◌, ◌≤◌, ◌<◌, ◌+◌, ◌*
 ghost use Rattle.settle_rules.specs.Release.{released_frame, segment_at, data_flags, data_segments, ends_here, syn_segments, release_symbols, release_bare, release_reset, refusal_of};
 ghost use Rattle.line_release.specs.Both.{both_of};
 ghost use Rattle.settle_rules.specs.Pieces.{piece_at};
-ghost use Rattle.line_release.specs.Prefix.{Begins};
+ghost use Rattle.shared_definitions.specs.Begins.{Begins};
 ghost use Rattle.line_release.specs.PieceSegment.{piece_segment};
 
 use crate::both::Both;

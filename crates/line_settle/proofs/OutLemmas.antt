@@ -4,7 +4,7 @@ use Rattle.std.proofs.lemmas.Bool.{eqb-true, eq-eqb}
 use Rattle.std.proofs.lemmas.List.{map-append}
 use Rattle.settle_rules.specs.Release.{Released, released_frame}
 use Rattle.settle_rules.specs.Settle.{is_empty}
-use Rattle.line_release.specs.Prefix.{Begins}
+use Rattle.shared_definitions.specs.Begins.{Begins}
 
 -- nothing was added exactly where the list is as long as before
 pub nothing_added : (old : List (List ℕ)) (xs : List Released) (new : List (List ℕ)) →

@@ -6,12 +6,12 @@ use Rattle.settle_rules.specs.Matching.{BothLines}
 use Rattle.settle_rules.specs.Progress.{Progress}
 use Rattle.settle_rules.specs.Release.{Released, release_bare, release_reset}
 use Rattle.settle_rules.specs.Settle.{Settled, settle_one, new_edge, shown_after}
-use Rattle.line_settle.specs.Parts.{symbols_out, bare_goes, reset_goes, plain_out, all_out, settled_progress, aged}
+use Rattle.line_settle.specs.Parts.{symbols_out, bare_goes, reset_goes, plain_out, all_out, settled_progress, grow_if_turn}
 use Rattle.line_settle.proofs.ShownLemmas.{shown_after-append, shown_bare, shown_reset}
 
 pub settle_one_is : (b : BothLines) (p : Progress) (is_turn : Bool) (tooks : List Took) →
     settle_one b p is_turn tooks ≡ record {
-      progress = aged b is_turn (settled_progress b p (plain_out b p tooks));
+      progress = grow_if_turn b is_turn (settled_progress b p (plain_out b p tooks));
       out = all_out b p tooks;
     }
 unfolding settle_one symbols_out bare_goes plain_out all_out

@@ -49,5 +49,5 @@ settled_progress b p plain = record p {
   shown = shown_after (client_or_zero b.mine.opening) p.shown plain;
 }
 
-abbrev pub aged : BothLines → Bool → Progress → Progress
-aged b is_turn p = if is_turn then grow_older b (matched_end b p.edge) p else p
+abbrev pub grow_if_turn : BothLines → Bool → Progress → Progress
+grow_if_turn b is_turn p = if is_turn then grow_older b (matched_end b p.edge) p else p

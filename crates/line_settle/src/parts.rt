@@ -3,7 +3,7 @@
 ghost use Rattle.std.specs.Prelude.{◌≡◌, ◌≤◌, ◌<◌, ◌++◌, map, is_some, true, if◌then◌else◌, OnOk, OnErr};
 ghost use Rattle.std.specs.List.{flat_map};
 ghost use Rattle.line_release.specs.Both.{both_of};
-ghost use Rattle.line_release.specs.Prefix.{Begins};
+ghost use Rattle.shared_definitions.specs.Begins.{Begins};
 ghost use Rattle.line_match.specs.Untrimmed.{IsUntrimmed};
 ghost use Rattle.settle_rules.specs.Matching.{client_or_zero};
 ghost use Rattle.settle_rules.specs.Release.{released_frame, release_symbols, release_refusal};

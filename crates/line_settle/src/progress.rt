@@ -4,7 +4,7 @@ ghost use Rattle.std.specs.Prelude.{◌≡◌, ◌&&◌, false, true, length, is
 ghost use Rattle.line_release.specs.Both.{both_of};
 ghost use Rattle.line_release.specs.Whole.{whole_of};
 ghost use Rattle.settle_rules.specs.Survive.{survivor_progress};
-ghost use Rattle.settle_rules.specs.Progress.{AckWindow, AgeKey, older, no_progress};
+ghost use Rattle.settle_rules.specs.Progress.{AckWindow, AgeKey, grow_age, no_progress};
 ghost use Rattle.settle_rules.specs.Settle.{same_ack_window, same_age_key, age_after};
 ghost use Rattle.line_settle.specs.ProgressFields.{ack_window_of, age_key_in};
 
@@ -171,8 +171,8 @@ pub(crate) fn same_ack_window(last: Option<LastAck>, now: LastAck) -> bool
 }
 
 /// The age after one turn more.
-fn older(age: u16) -> u16
-    ensures { result ≡ older age }
+fn grow_age(age: u16) -> u16
+    ensures { result ≡ grow_age age }
 {
     if age >= LONGEST_AGE {
         LONGEST_AGE
@@ -190,10 +190,14 @@ fn same_basis(old: AgeBasis, new: AgeBasis) -> bool
 /// The age at the end of a turn.
 pub(crate) fn age_after(age: u16, old: AgeBasis, new: AgeBasis, unmatched: bool) -> u16
     ensures { result ≡ (if unmatched
-        then (if same_age_key (age_key_in old) (age_key_in new) then older age else 1) else 0) }
+        then (if same_age_key (age_key_in old) (age_key_in new) then grow_age age else 1) else 0) }
 {
     if !unmatched {
         return 0;
     }
-    if same_basis(old, new) { older(age) } else { 1 }
+    if same_basis(old, new) {
+        grow_age(age)
+    } else {
+        1
+    }
 }

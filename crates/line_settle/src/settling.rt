@@ -2,12 +2,12 @@
 
 ghost use Rattle.std.specs.Prelude.{◌≡◌, ◌≤◌, ◌<◌, ◌++◌, ◌&&◌, ◌||◌, not, is_some, true, map, OnOk, OnErr};
 ghost use Rattle.line_release.specs.Both.{both_of};
-ghost use Rattle.line_release.specs.Prefix.{Begins};
+ghost use Rattle.shared_definitions.specs.Begins.{Begins};
 ghost use Rattle.line_match.specs.Untrimmed.{IsUntrimmed};
 ghost use Rattle.settle_rules.specs.Matching.{client_or_zero, matched_end};
 ghost use Rattle.settle_rules.specs.Release.{released_frame, release_bare};
 ghost use Rattle.settle_rules.specs.Settle.{settle_one, settle_or_rest, new_edge, shown_after, grow_older};
-ghost use Rattle.line_settle.specs.Parts.{plain_out, settled_progress, aged, symbols_out, bare_goes, reset_goes, refusal_goes, last_after, all_out};
+ghost use Rattle.line_settle.specs.Parts.{plain_out, settled_progress, grow_if_turn, symbols_out, bare_goes, reset_goes, refusal_goes, last_after, all_out};
 ghost use Rattle.line_settle.specs.ProgressFields.{ack_window_of};
 
 use crate::due::{client_or_zero, new_edge, refusal_goes, reset_goes, wants_bare};

@@ -11,7 +11,7 @@ use Rattle.inet_frame.specs.Frame.{is_arp, seen_of, seen_unless, drop_number, ca
 use Rattle.shared_definitions.proofs.ByteLemmas.{AreBytes-append, AreBytes-drop, AreBytes-take, AreBytes-range, bytes_from}
 use Rattle.shared_definitions.proofs.ByteLemmas.{AreBytes-nil, AreBytes-overwrite, AreBytes-low_first, four_bytes}
 use Rattle.shared_definitions.proofs.FactLemmas.{◌&◌}
-use Rattle.virt_queue.specs.Parts.{DescriptorChain, joined, write_joined, readable, writable}
+use Rattle.virt_queue.specs.Parts.{DescriptorChain, join_parts, write_joined, readable, writable}
 use Rattle.virt_queue.specs.Ring.{with_used, after_position}
 use Rattle.virt_queue.specs.declared.fields.Part.{Part}
 use Rattle.virt_queue.specs.declared.fields.QueueFields.{QueueFields}
@@ -70,11 +70,11 @@ used_kept m q head len h =
     (AreBytes-low_first 0 4 head) (AreBytes-low_first 0 4 len)))
     (AreBytes-low_first 0 2 (after_position q.used))
 
-pub joined_bytes : (b : List ℕ) (parts : List Part) → AreBytes b → AreBytes (joined b parts)
-unfolding joined
+pub joined_bytes : (b : List ℕ) (parts : List Part) → AreBytes b → AreBytes (join_parts b parts)
+unfolding join_parts
 joined_bytes b [] h = AreBytes-nil
 joined_bytes b (p ∷ parts) h =
-    AreBytes-append (part_at b p.addr p.len) (joined b parts)
+    AreBytes-append (part_at b p.addr p.len) (join_parts b parts)
     (AreBytes-range b (place_of p.addr) (place_of p.addr + p.len) h) (joined_bytes b parts h)
 
 pub written_kept : (m : Memory) (parts : List Part) (bytes : List ℕ) → AreBytes m.bytes → AreBytes bytes
@@ -207,7 +207,7 @@ output_by bytes false h = All-nil AreBytes
 
 payload_bytes : (b : List ℕ) (chain : DescriptorChain) → AreBytes b → AreBytes (payload b chain)
 payload_bytes b chain h =
-    AreBytes-drop (length header) (joined b (readable chain.parts)) (joined_bytes b (readable chain.parts) h)
+    AreBytes-drop (length header) (join_parts b (readable chain.parts)) (joined_bytes b (readable chain.parts) h)
 
 next_sends : (port : Port) (next : Result (Option DescriptorChain) RingFault) → PortBytes port
     → SentBytes (send_by port next)

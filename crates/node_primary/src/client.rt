@@ -4,7 +4,7 @@ ghost use Rattle.std.specs.Prelude.{◌≡◌, ◌∷◌, [], ◌<◌, ◌++◌,
 ghost use Rattle.frame_mirror.specs.Accepted.{is_accepted};
 ghost use Rattle.frame_mirror.specs.declared.ring.TheConstants.{INBOX_ROOM};
 ghost use Rattle.frame_mirror.specs.declared.ring.Waiting.{Waiting};
-ghost use Rattle.line_release.specs.Prefix.{Begins};
+ghost use Rattle.shared_definitions.specs.Begins.{Begins};
 ghost use Rattle.colo_wire.specs.Reader.{message_of};
 ghost use Rattle.colo_wire.specs.Spelling.{IsMessage, message_bytes};
 ghost use Rattle.colo_wire.specs.declared.messages.Message.TheVariants as message;

@@ -1,7 +1,7 @@
 //! What a primary hears.
 
 ghost use Rattle.std.specs.Prelude.{◌≡◌, ◌++◌, true, false, None, Some, IfOk, OnOk, OnErr};
-ghost use Rattle.line_release.specs.Prefix.{Begins};
+ghost use Rattle.shared_definitions.specs.Begins.{Begins};
 ghost use Rattle.colo_wire.specs.Kinds.{number_of_kind};
 ghost use Rattle.out_compare.specs.Comparing.{learn, take_heard};
 ghost use Rattle.node_primary.specs.Answers.{ack_by, told_of};

@@ -1,7 +1,7 @@
 //! The parts of a primary, and what the calls have in common: settling, and a capture.
 
 ghost use Rattle.std.specs.Prelude.{◌≡◌, ◌++◌, false, IfOk, OnOk, OnErr};
-ghost use Rattle.line_release.specs.Prefix.{Begins};
+ghost use Rattle.shared_definitions.specs.Begins.{Begins};
 ghost use Rattle.node_primary.specs.Inside.{AreSound, plain};
 ghost use Rattle.node_primary.specs.Steps.{capture, next_capture, settle_node};
 

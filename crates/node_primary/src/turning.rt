@@ -2,7 +2,7 @@
 
 ghost use Rattle.std.specs.Prelude.{◌≡◌, ◌≤◌, ◌++◌, false, fold, IfOk, OnOk, OnErr};
 ghost use Rattle.std.specs.Option.{option_map};
-ghost use Rattle.line_release.specs.Prefix.{Begins};
+ghost use Rattle.shared_definitions.specs.Begins.{Begins};
 ghost use Rattle.node_primary.specs.Answers.{asked_number, turned_by};
 ghost use Rattle.node_primary.specs.Inside.{AreSound, plain, turn_in};
 ghost use Rattle.node_primary.specs.Steps.{follow_all, followed, frame_taken, primary_ask, primary_report, primary_turn};

@@ -12,7 +12,7 @@ use Rattle.frame_mirror.specs.declared.ring.Waiting.{Waiting}
 use Rattle.colo_wire.specs.declared.answers.Gate.{Gate}
 use Rattle.colo_wire.specs.declared.answers.Gate.TheVariants as gate
 use Rattle.out_compare.specs.Comparing.{Comparing}
-use Rattle.out_compare.specs.Look.{look, looked}
+use Rattle.out_compare.specs.Look.{look, look_after}
 
 -- what is answered, the frame as it waits, the comparer then, and what goes out
 pub record Gated : Type 0 where
@@ -36,7 +36,7 @@ trim_by x (Some s) = (look x s).trim
 
 abbrev pub looked_by : Comparing → Option TcpFields → Comparing
 looked_by x None = x
-looked_by x (Some s) = looked x s
+looked_by x (Some s) = look_after x s
 
 abbrev pub taken_by : Comparing → ℕ → List ℕ → Option TcpFields → Gated
 taken_by x index frame t = record {

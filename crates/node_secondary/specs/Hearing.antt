@@ -4,7 +4,7 @@ use Rattle.std.specs.Prelude.{◌≡◌, ℕ, ◌+◌, ◌%◌, ◌^◌, Bool, t
 use Rattle.inet_frame.specs.Counted.{client_tuple_of, tcp_in}
 use Rattle.inet_frame.specs.Fields.{TcpFields}
 use Rattle.inet_frame.specs.declared.tuple.Tuple.{Tuple}
-use Rattle.tcp_track.specs.Tracking.{Tracking, trimmed}
+use Rattle.tcp_track.specs.Tracking.{Tracking, trim_tracking}
 use Rattle.tcp_track.specs.declared.openings.Opening.{Opening}
 use Rattle.seq_rewriter.specs.Kept.{KeptNumbers, keep_number, number_of}
 use Rattle.frame_mirror.specs.Accepted.{is_accepted}
@@ -78,7 +78,7 @@ waiting index seen trim frame =
 abbrev pub trim_for : Tracking → Option Opening → ℕ → Option TcpFields → Tracking
 trim_for lines None trim t = lines
 trim_for lines (Some seen) trim None = lines
-trim_for lines (Some seen) trim (Some t) = trimmed lines (client_tuple_of t) seen.client trim
+trim_for lines (Some seen) trim (Some t) = trim_tracking lines (client_tuple_of t) seen.client trim
 
 abbrev pub trim_lines : Tracking → Waiting → Tracking
 trim_lines lines w = trim_for lines w.seen w.trim (tcp_in w.frame)

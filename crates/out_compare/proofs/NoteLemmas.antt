@@ -4,7 +4,7 @@ use Rattle.inet_frame.specs.Counted.{tuple_of}
 use Rattle.inet_frame.specs.Fields.{TcpFields}
 use Rattle.inet_frame.specs.Flags.{has_rst}
 use Rattle.inet_frame.specs.declared.tuple.Tuple.{Tuple}
-use Rattle.tcp_track.specs.LineFields.{LineFields, fields_after, fields_with, fields_opened, fields_refused, fields_reset, grows, grown}
+use Rattle.tcp_track.specs.LineFields.{LineFields, fields_after, fields_with, fields_opened, fields_refused, fields_reset, grows, grow_fields}
 use Rattle.tcp_track.specs.Segments.{is_refusal, refused_in, opens_anew, opening_in, start_of, symbols_in, Symbol}
 use Rattle.tcp_track.specs.Tracking.{what_of, span_in, span_of}
 use Rattle.tcp_track.specs.declared.answers.What.{What}
@@ -23,7 +23,7 @@ still_untrimmed l m edge same h o =
     let low = h (ap is_some (sym same.0) ∙ o) in
     omega (arith, low, same.1)
 
-grown_stays : (b : Bool) (l : LineFields) (from : ℕ) (s : TcpFields) → Stays l (if b then grown l from s else l)
+grown_stays : (b : Bool) (l : LineFields) (from : ℕ) (s : TcpFields) → Stays l (if b then grow_fields l from s else l)
 grown_stays true l from s = (refl, refl)
 grown_stays false l from s = (refl, refl)
 

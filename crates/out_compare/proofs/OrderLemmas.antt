@@ -8,7 +8,7 @@ use Rattle.inet_frame.specs.declared.tuple.Tuple.{Tuple}
 use Rattle.tcp_track.specs.LineFields.{LineFields, no_fields, bytes_end, cut, fields_after, fields_trimmed}
 use Rattle.tcp_track.specs.Stands.{is_of_client}
 use Rattle.tcp_track.specs.Segments.{same_tuple, may_open, is_refusal, opening_in}
-use Rattle.tcp_track.specs.Tracking.{Tracking, line_at, entry_of, entry_or_none, no_entry, put_entry, entries_after, trim_entry, taken, took_of, tracking_with, tracking_after, took_in, what_in, what_of, is_known_client, current_at, trimmed, committed, commit_entry}
+use Rattle.tcp_track.specs.Tracking.{Tracking, line_at, entry_of, entry_or_none, no_entry, put_entry, entries_after, trim_entry, taken, took_of, tracking_with, tracking_after, took_in, what_in, what_of, is_known_client, current_at, trim_tracking, commit_tracking, commit_entry}
 use Rattle.tcp_track.specs.declared.answers.Took.{Took}
 use Rattle.tcp_track.specs.declared.answers.What.{What}
 use Rattle.tcp_track.specs.declared.answers.What.TheVariants.{Ignored, Opened, Restarted, Symbols, Reset, Refused}
@@ -138,7 +138,7 @@ own_untrimmed mine table frame h = by (counted frame)
 
 -- AN ACKNOWLEDGEMENT
 
-committed_line : (mine : Tracking) (t : Tuple) → line_at (committed mine) t ≡ line_at mine t
+committed_line : (mine : Tracking) (t : Tuple) → line_at (commit_tracking mine) t ≡ line_at mine t
 committed_line mine t = by mine.entries
   where
     by : (es : List (Tuple × Entry)) → option_map (λ (x : Entry). x.line) (entry_of (map commit_entry es) t)
@@ -165,7 +165,7 @@ cleared_edge (e ∷ es) t = choice (same_tuple t e.0) (cleared_edge es t)
     choice false more = more
 
 pub acknowledged_untrimmed : (mine : Tracking) (table : ProgressTable) → AreUntrimmed mine table →
-    AreUntrimmed (committed mine) (clear_ages table)
+    AreUntrimmed (commit_tracking mine) (clear_ages table)
 acknowledged_untrimmed mine table h = λ t l at o.
     let low = h t l (sym (committed_line mine t) ∙ at) o in
     omega (arith, low, cleared_edge table t)
@@ -210,6 +210,6 @@ trim_found mine table u client to (Some e) p low h =
     λ t l at. trim_pick mine table u e client to t l (same_tuple t u) refl p low h at
 
 pub trim_untrimmed : (mine : Tracking) (table : ProgressTable) (u : Tuple) (client to : ℕ) →
-    to ≤ (progress_at table u).edge → AreUntrimmed mine table → AreUntrimmed (trimmed mine u client to) table
-unfolding trimmed
+    to ≤ (progress_at table u).edge → AreUntrimmed mine table → AreUntrimmed (trim_tracking mine u client to) table
+unfolding trim_tracking
 trim_untrimmed mine table u client to low h = trim_found mine table u client to (entry_of mine.entries u) refl low h

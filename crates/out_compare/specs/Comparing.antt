@@ -1,7 +1,7 @@
 -- What a comparer holds, and what each call leaves.
 use Rattle.std.specs.Prelude.{ℕ, Bool, true, false, not, ◌==◌, if◌then◌else◌, List, [], ◌∷◌, ◌++◌, filter, Option, None, Some}
 use Rattle.inet_frame.specs.declared.tuple.Tuple.{Tuple}
-use Rattle.tcp_track.specs.Tracking.{Tracking, nothing_tracked, taken, took_of, committed, same_incarnation}
+use Rattle.tcp_track.specs.Tracking.{Tracking, nothing_tracked, taken, took_of, commit_tracking, same_incarnation}
 use Rattle.tcp_track.specs.declared.answers.Took.{Took}
 use Rattle.tcp_track.specs.declared.openings.Incarnation.{Incarnation}
 use Rattle.seq_rewriter.specs.Kept.{KeptNumbers, is_current, number_of, thin}
@@ -115,8 +115,8 @@ capture x = record x {
 -- from then on what it knows of the other's; all numbers are known, and ages are counted anew.
 unfoldable pub acknowledge : Comparing → Comparing
 acknowledge x = record x {
-  mine = committed x.mine;
-  theirs = committed x.mine;
+  mine = commit_tracking x.mine;
+  theirs = commit_tracking x.mine;
   unknown = [];
   progress = clear_ages x.progress;
 }

@@ -4,7 +4,7 @@ use Rattle.std.specs.Prelude.{ℕ, Option, None, Some}
 use Rattle.inet_frame.specs.Counted.{client_tuple_of}
 use Rattle.inet_frame.specs.Fields.{TcpFields}
 use Rattle.inet_frame.specs.declared.tuple.Tuple.{Tuple}
-use Rattle.tcp_track.specs.Tracking.{Tracking, current_at, trimmed}
+use Rattle.tcp_track.specs.Tracking.{Tracking, current_at, trim_tracking}
 use Rattle.tcp_track.specs.declared.openings.Opening.{Opening}
 use Rattle.settle_rules.specs.Look.{trim_of}
 use Rattle.settle_table.specs.Table.{progress_at}
@@ -26,15 +26,15 @@ trimmed_look mine theirs s edge (Some shown) =
     record {
       seen = Some shown;
       trim = to;
-      mine = trimmed mine (client_tuple_of s) shown.client to;
-      theirs = trimmed theirs (client_tuple_of s) shown.client to;
+      mine = trim_tracking mine (client_tuple_of s) shown.client to;
+      theirs = trim_tracking theirs (client_tuple_of s) shown.client to;
     }
 
 unfoldable pub look : Comparing → TcpFields → TrimmedLook
-unfolding trimmed
+unfolding trim_tracking
 look x s =
     let p = progress_at x.progress (client_tuple_of s) in
     trimmed_look x.mine x.theirs s p.edge p.shown
 
-abbrev pub looked : Comparing → TcpFields → Comparing
-looked x s = record x { mine = (look x s).mine; theirs = (look x s).theirs }
+abbrev pub look_after : Comparing → TcpFields → Comparing
+look_after x s = record x { mine = (look x s).mine; theirs = (look x s).theirs }

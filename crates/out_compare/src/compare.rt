@@ -38,7 +38,7 @@ impl Model for Compare {
 impl Compare {
     ghost use Rattle.out_compare.specs.Held.{holds};
     ghost use Rattle.out_compare.specs.Comparing.{nothing_compared, take_own, take_heard, learn, settlement_of, need_after, settle, capture, acknowledge, leave_alone};
-    ghost use Rattle.out_compare.specs.Look.{look, looked};
+    ghost use Rattle.out_compare.specs.Look.{look, look_after};
     ghost use Rattle.out_compare.specs.Noting.{new_number};
     ghost use Rattle.out_compare.specs.Surviving.{survive, survivor};
 
@@ -147,7 +147,7 @@ impl Compare {
     pub fn client(&mut self, view: &TcpView) -> (Option<Opening>, Offset)
         ensures seen { result.0 ≡ (look self.old.comparing view.now).seen }
         ensures trim { result.1 ≡ (look self.old.comparing view.now).trim }
-        ensures after { self.new.comparing ≡ looked self.old.comparing view.now }
+        ensures after { self.new.comparing ≡ look_after self.old.comparing view.now }
         ensures spent { self.new.spent ≡ self.old.spent }
     {
         look(&mut self.tables, view)

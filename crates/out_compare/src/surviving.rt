@@ -2,7 +2,7 @@
 
 ghost use Rattle.std.specs.Prelude.{◌≡◌, ◌++◌, [], length, is_some, true, map, unwrap_or, Some, OnOk, OnErr, IfOk};
 ghost use Rattle.line_release.specs.Both.{both_of};
-ghost use Rattle.line_release.specs.Prefix.{Begins};
+ghost use Rattle.shared_definitions.specs.Begins.{Begins};
 ghost use Rattle.line_release.specs.Whole.{whole_of};
 ghost use Rattle.settle_rules.specs.Release.{released_frame, release_refusal};
 ghost use Rattle.settle_rules.specs.Survive.{lone_lines, survivor_out, survivor_progress};

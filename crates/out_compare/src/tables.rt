@@ -9,10 +9,10 @@ ghost use Rattle.settle_table.specs.Table.{progress_at};
 ghost use Rattle.tcp_track.specs.Stands.{is_of_client};
 ghost use Rattle.tcp_track.specs.Tracking.{same_incarnation, took_of};
 ghost use Rattle.seq_rewriter.specs.Kept.{is_current};
-ghost use Rattle.line_release.specs.Prefix.{Begins};
+ghost use Rattle.shared_definitions.specs.Begins.{Begins};
 ghost use Rattle.settle_rules.specs.Release.{released_frame};
 ghost use Rattle.out_compare.specs.Comparing.{nothing_compared, take_own, take_heard, learn, is_kept, settlement_of, need_after, settle, capture, acknowledge};
-ghost use Rattle.out_compare.specs.Look.{look, looked};
+ghost use Rattle.out_compare.specs.Look.{look, look_after};
 ghost use Rattle.settle_rules.specs.Look.{trim_of};
 ghost use Rattle.out_compare.specs.Noting.{new_number};
 ghost use Rattle.out_compare.specs.Held.{comparing, IsInOrder};
@@ -235,7 +235,7 @@ fn progress_of(table: &IndexMap<Tuple, Progress>, tuple: &Tuple) -> (Offset, Opt
 pub(crate) fn look(tables: &mut Tables, view: &TcpView) -> (Option<Opening>, Offset)
     ensures seen { result.0 ≡ (look (comparing tables.old) view.now).seen }
     ensures trim { result.1 ≡ (look (comparing tables.old) view.now).trim }
-    ensures after { comparing tables.new ≡ looked (comparing tables.old) view.now }
+    ensures after { comparing tables.new ≡ look_after (comparing tables.old) view.now }
     ensures order { IsInOrder (comparing tables.old) → IsInOrder (comparing tables.new) }
 {
     let tuple = view.client_tuple();

@@ -7,7 +7,7 @@ use Rattle.inet_frame.specs.declared.tuple.Tuple.{Tuple}
 use Rattle.tcp_track.specs.Laws.{Call, takes, trims, commits, call_after}
 use Rattle.tcp_track.specs.Lines.{Item, commit}
 use Rattle.tcp_track.specs.Stands.{is_of_client}
-use Rattle.tcp_track.specs.Tracking.{Tracking, committed, current_at, nothing_tracked, same_incarnation, taken, trimmed}
+use Rattle.tcp_track.specs.Tracking.{Tracking, commit_tracking, current_at, nothing_tracked, same_incarnation, taken, trim_tracking}
 use Rattle.tcp_track.specs.declared.openings.Incarnation.{Incarnation}
 use Rattle.seq_rewriter.specs.Kept.{is_current, number_of}
 use Rattle.settle_rules.specs.Numbers.{KeptNumber, kept_number, thin}
@@ -54,8 +54,8 @@ capturable_from lines [] h = h
 capturable_from lines (takes frame ∷ calls) h =
     capturable_from (taken lines frame) calls (takes_regularly lines frame h)
 capturable_from lines (trims t client to ∷ calls) h =
-    capturable_from (trimmed lines t client to) calls (trims_regularly lines t client to h)
-capturable_from lines (commits ∷ calls) h = capturable_from (committed lines) calls (commits_regularly lines h)
+    capturable_from (trim_tracking lines t client to) calls (trims_regularly lines t client to h)
+capturable_from lines (commits ∷ calls) h = capturable_from (commit_tracking lines) calls (commits_regularly lines h)
 
 capturable : (items : List Item) (lines : Tracking) → Tracks items lines → AreCapturable lines
 capturable items lines h =

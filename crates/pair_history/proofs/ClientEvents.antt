@@ -24,7 +24,7 @@ use Rattle.node_release.specs.Gated.{Gated, gated, looked_by, refused, seen_by, 
 use Rattle.node_primary.specs.Steps.{compares, frame_message, let_in, told, with_waiting}
 use Rattle.node_secondary.specs.Survivor.{Second, alone, hears}
 use Rattle.out_compare.specs.Comparing.{Comparing}
-use Rattle.out_compare.specs.Look.{looked}
+use Rattle.out_compare.specs.Look.{look_after}
 use Rattle.pair_core.specs.Events as core
 use Rattle.pair_core.specs.Events.{primary_takes, secondary_takes}
 use Rattle.pair_core.specs.Pair.{Pair, is_primary, sent_down}
@@ -209,7 +209,7 @@ accepted_alike kind stream past w kept h runs room clean =
     subst (λ (z : Waiting). Goes kind stream o (let_in_as v z (looked_by x (tcp_in kept))))
     (sym (waits_alike past (accept_by false past y (trims_by y)) primary_books kept s.fields x s.is l))
     (subst (λ (t : Option TcpFields). Goes kind stream o (let_in_as v y (looked_by x t))) (sym s.is)
-    (let_in_alike kind stream past w y (looked x s.fields) h runs room clean l.accepted))
+    (let_in_alike kind stream past w y (look_after x s.fields) h runs room clean l.accepted))
 
 -- A FRAME finds room, or not
 frame_alike : (kind : Kind) (stream : List (List ℕ)) (past : Past) (w : Pair) (kept : List ℕ)

@@ -21,7 +21,7 @@ use Rattle.node_release.specs.Gated.{Gated, gated, looked_by, refused, taken_by}
 use Rattle.node_secondary.specs.Steps.{gate_for, let_in, secondary_ingress}
 use Rattle.node_secondary.specs.Survivor.{Second, Survivor, alone, guest_of, hears}
 use Rattle.out_compare.specs.Comparing.{Comparing}
-use Rattle.out_compare.specs.Look.{looked}
+use Rattle.out_compare.specs.Look.{look_after}
 use Rattle.pair_core.specs.Events as core
 use Rattle.pair_core.specs.Events.{primary_takes, secondary_takes}
 use Rattle.pair_core.specs.Pair.{Pair, is_primary}
@@ -126,7 +126,7 @@ accepted_alike kind stream past w n kept h releases t clean =
     subst (λ (z : Waiting). Goes kind stream o (let_in_as kind stream past n w z (looked_by x (tcp_in kept))))
     (sym (waits_alike past (accept_by true past y (trims_by y)) survivor_books kept s.fields x s.is l))
     (subst (λ (u : Option TcpFields). Goes kind stream o (let_in_as kind stream past n w y (looked_by x u))) (sym s.is)
-    (let_in_alike kind stream past w n y (looked x s.fields) h releases l.accepted))
+    (let_in_alike kind stream past w n y (look_after x s.fields) h releases l.accepted))
 
 frame_alike : (kind : Kind) (stream : List (List ℕ)) (past : Past) (w : Pair) (n : Survivor) (kept : List ℕ)
     → Stands kind stream past (alone_pair kind stream past n w) → secondary_releases past ≡ true

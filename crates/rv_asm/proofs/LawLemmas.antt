@@ -18,7 +18,7 @@ use Rattle.rv_forms.proofs.WordLemmas.{operands_in_range}
 use Rattle.rv_asm.specs.Grammar.{AreOperandTexts, IsStatementText, IsStatement}
 use Rattle.rv_asm.specs.Lines.{label_of, line_of, place_of, words_at}
 use Rattle.rv_asm.specs.Program.{line_words, program_from, program, Assembles}
-use Rattle.rv_asm.specs.Statements.{blank, statement}
+use Rattle.rv_asm.specs.Statements.{no_operands, statement}
 use Rattle.rv_asm.specs.Texts.{data_text, text_by, text_of, is_one_line}
 use Rattle.rv_asm.proofs.ByteLemmas.{weaken, joined_all, is_operand_byte}
 use Rattle.rv_asm.proofs.OperandLemmas.{kind_is}
@@ -128,7 +128,7 @@ nowhere name = None
 
 is_text : (o : Option Mnemonic) (word : ℕ) → word < 2 ^ 32 → mnemonic_of word ≡ o → IsText (text_by o word) word
 is_text None word below e =
-    let f : Operands = record (blank false false) { wide = word } in
+    let f : Operands = record (no_operands false false) { wide = word } in
     record {
       line = is_line nowhere 0 (codes ".word") (kinds.Word ∷ []) (data_text word) f (refl, omega arith)
           (statement_written nowhere 0 (codes ".word") (kinds.Word ∷ []) f (below, tt));

@@ -27,7 +27,7 @@ use Rattle.rv_asm.specs.Faults.{◌>>=◌}
 use Rattle.rv_asm.specs.Grammar.{IsOperandText, AreOperandTexts, IsStatementText, IsInstruction, IsStatement}
 use Rattle.rv_asm.specs.Operands.{operand, after_comma, next_operand, operands}
 use Rattle.rv_asm.specs.Refusals.{GoesOn, OperandsStop, Stops}
-use Rattle.rv_asm.specs.Statements.{blank, load_words, data_words, li_words, instruction_words, statement}
+use Rattle.rv_asm.specs.Statements.{no_operands, load_words, data_words, li_words, instruction_words, statement}
 use Rattle.rv_asm.proofs.ByteLemmas.{is_operand_byte}
 use Rattle.rv_asm.proofs.OperandLemmas.{Reads, found, weakened, recast, chained, mapped, wrong, cut_in, taken, kind_is}
 
@@ -291,8 +291,8 @@ module _ (places : List ℕ → Option ℕ) (here : ℕ) (text : List ℕ) where
         other_name name (codes ".word") no_data_name _ known,
         other_name name (codes "li") no_load_name _ known,
         known,
-        operands_taken places here (kinds_of m.syntax) (cut space text).after (blank p q) f cuts.1,
-        (row_is m.syntax).2 m.value f (blank p q) order,
+        operands_taken places here (kinds_of m.syntax) (cut space text).after (no_operands p q) f cuts.1,
+        (row_is m.syntax).2 m.value f (no_operands p q) order,
         word_back m.syntax m.value w below fits,
       ) refl
 
@@ -312,21 +312,21 @@ module _ (places : List ℕ → Option ℕ) (here : ℕ) (text : List ℕ) where
         | inl instruction ↦ instruction_only words instruction
         | inr other ↦ elim other [
           | inl h ↦
-              let f : Operands = record (blank false false) { wide = h.word } in
+              let f : Operands = record (no_operands false false) { wide = h.word } in
               let cuts = name_cut places here (codes ".word") (kinds.Word ∷ []) text f refl h.written in
               rw (
                 cuts.0,
-                operands_taken places here (kinds.Word ∷ []) (cut space text).after (blank false false) f
+                operands_taken places here (kinds.Word ∷ []) (cut space text).after (no_operands false false) f
                     cuts.1,
                 h.only,
               ) refl
           | inr h ↦
-              let f : Operands = record (blank false false) { rd = h.rd; wide = h.number } in
+              let f : Operands = record (no_operands false false) { rd = h.rd; wide = h.number } in
               let cuts = name_cut places here (codes "li") (kinds.Rd ∷ kinds.Value ∷ []) text f refl h.written in
               rw (
                 cuts.0,
                 operands_taken places here (kinds.Rd ∷ kinds.Value ∷ []) (cut space text).after
-                    (blank false false) f cuts.1,
+                    (no_operands false false) f cuts.1,
                 h.both,
               ) refl
         ]
@@ -371,7 +371,8 @@ module _ (places : List ℕ → Option ℕ) (here : ℕ) (text : List ℕ) where
       (instruction_words places here o (cut space text).after))) (λ why. MatchOption (cond b (Some (kinds.Word ∷ []))
       (cond c (Some (kinds.Rd ∷ kinds.Value ∷ [])) (option_map (λ n. kinds_of n.mnemonic.syntax) o))) (why ≡ Word)
       (λ list. OperandsStop places here list (cut space text).after why))
-  statement_told true c o is_data is_load is = with_kinds (kinds.Word ∷ []) ((λ f g. refl) & tt) (blank false false)
+  statement_told true c o is_data is_load is =
+      with_kinds (kinds.Word ∷ []) ((λ f g. refl) & tt) (no_operands false false)
       (λ g. g.wide ∷ []) (λ g cuts all. inr (inl (record {
         word = g.wide;
         only = refl;
@@ -380,7 +381,7 @@ module _ (places : List ℕ → Option ℕ) (here : ℕ) (text : List ℕ) where
             is_data) cuts);
       })))
   statement_told false true o is_data is_load is = with_kinds (kinds.Rd ∷ kinds.Value ∷ []) load_apart
-      (blank false false) (λ g. load_words g.rd g.wide) (λ g cuts all. inr (inr (record {
+      (no_operands false false) (λ g. load_words g.rd g.wide) (λ g cuts all. inr (inr (record {
         rd = g.rd;
         number = g.wide;
         both = refl;
@@ -391,9 +392,9 @@ module _ (places : List ℕ → Option ℕ) (here : ℕ) (text : List ℕ) where
   statement_told false false None is_data is_load is = (refl, λ why e. rw e refl)
   statement_told false false (Some n) is_data is_load is =
       let row = row_is n.mnemonic.syntax in
-      with_kinds (kinds_of n.mnemonic.syntax) row.0 (blank n.aq n.rl)
+      with_kinds (kinds_of n.mnemonic.syntax) row.0 (no_operands n.aq n.rl)
       (λ g. word_of n.mnemonic.syntax n.mnemonic.value g ∷ []) (λ g cuts all.
-      let order = row.1 g (blank n.aq n.rl) in
+      let order = row.1 g (no_operands n.aq n.rl) in
       let known = name_found (cut space text).before n is in
       inl (instruction_found n.mnemonic g known.row (rw (
         ap (λ (f : Operands). f.aq) (sym all) ∙ order.0,

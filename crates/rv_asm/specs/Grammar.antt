@@ -12,7 +12,7 @@ use Rattle.rv_forms.specs.Names.{name_text}
 use Rattle.rv_asm.specs.declared.reading.Number.{Number}
 use Rattle.rv_asm.specs.Operands.{value, word, near, distance, in_memory, address}
 use Rattle.rv_asm.specs.Reading.{number_within, register_of, is_label}
-use Rattle.rv_asm.specs.Statements.{blank, load_words}
+use Rattle.rv_asm.specs.Statements.{no_operands, load_words}
 
 -- a label's name, and how many words stand before it
 abbrev pub IsLabelOf : (List ℕ → Option ℕ) → List ℕ → ℕ → Type 0
@@ -99,7 +99,7 @@ pub record IsData (places : List ℕ → Option ℕ) (here : ℕ) (text words : 
   pub word : ℕ
   pub only : words ≡ word ∷ []
   pub written : IsStatementText places here (codes ".word") (kinds.Word ∷ []) text (record
-      (blank false false) { wide = word })
+      (no_operands false false) { wide = word })
 
 -- `li`, a register and a number or a label, for LUI and ADDI
 pub record IsLoad (places : List ℕ → Option ℕ) (here : ℕ) (text words : List ℕ) : Type 0 where
@@ -107,7 +107,7 @@ pub record IsLoad (places : List ℕ → Option ℕ) (here : ℕ) (text words : 
   pub number : ℕ
   pub both : words ≡ load_words rd number
   pub written : IsStatementText places here (codes "li") (kinds.Rd ∷ kinds.Value ∷ []) text
-      (record (blank false false) { rd = rd; wide = number })
+      (record (no_operands false false) { rd = rd; wide = number })
 
 -- the text stands for these words, where labels have these places and `here` words stand before it
 abbrev pub IsStatement : (List ℕ → Option ℕ) → ℕ → List ℕ → List ℕ → Type 0

@@ -16,8 +16,8 @@ use Rattle.rv_asm.specs.Faults.{◌>>=◌}
 use Rattle.rv_asm.specs.Operands.{operands}
 
 -- no value yet, with these order bits
-abbrev pub blank : Bool → Bool → Operands
-blank aq rl = record { rd = 0; rs1 = 0; rs2 = 0; imm = pos 0; wide = 0; aq = aq; rl = rl }
+abbrev pub no_operands : Bool → Bool → Operands
+no_operands aq rl = record { rd = 0; rs1 = 0; rs2 = 0; imm = pos 0; wide = 0; aq = aq; rl = rl }
 
 -- a number is the upper 20 bits of one word and a signed 12-bit number, modulo 2^32
 abbrev pub upper_part : ℕ → ℕ
@@ -32,18 +32,18 @@ load_words rd n = isa.word_of (Lui rd (upper_part n)) ∷ isa.word_of (Addi rd r
 
 abbrev pub data_words : (List ℕ → Option ℕ) → ℕ → Option (List ℕ) → Result (List ℕ) Why
 data_words places here rest = operands places here (kinds.Word ∷ []) rest
-    (blank false false) >>= λ f. Ok (f.wide ∷ [])
+    (no_operands false false) >>= λ f. Ok (f.wide ∷ [])
 
 abbrev pub li_words : (List ℕ → Option ℕ) → ℕ → Option (List ℕ) → Result (List ℕ) Why
 li_words places here rest = operands places here (kinds.Rd ∷ kinds.Value ∷ []) rest
-    (blank false false) >>= λ f. Ok (load_words f.rd f.wide)
+    (no_operands false false) >>= λ f. Ok (load_words f.rd f.wide)
 
 -- the word of the instruction with this name
 abbrev pub instruction_words : (List ℕ → Option ℕ) → ℕ → Option Name → Option (List ℕ)
     → Result (List ℕ) Why
 instruction_words places here None rest = Err Word
 instruction_words places here (Some n) rest =
-    operands places here (kinds_of n.mnemonic.syntax) rest (blank n.aq n.rl) >>= λ f. Ok
+    operands places here (kinds_of n.mnemonic.syntax) rest (no_operands n.aq n.rl) >>= λ f. Ok
     (word_of n.mnemonic.syntax n.mnemonic.value f ∷ [])
 
 -- a name, and after a space its operands

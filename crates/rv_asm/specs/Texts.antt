@@ -10,7 +10,7 @@ use Rattle.rv_forms.specs.declared.kinds.Operands.{Operands}
 use Rattle.rv_forms.specs.Forms.{kinds_of, operands_of}
 use Rattle.rv_forms.specs.Mnemonics.{Mnemonic, mnemonic_of}
 use Rattle.rv_forms.specs.Names.{name_text}
-use Rattle.rv_asm.specs.Statements.{blank}
+use Rattle.rv_asm.specs.Statements.{no_operands}
 
 abbrev pub register_text : ℕ → List ℕ
 register_text r = letter_x ∷ decimal r
@@ -60,7 +60,7 @@ statement_text name (kind ∷ more) f = name ++ (space ∷ operand_texts kind mo
 -- the word as a number
 abbrev pub data_text : ℕ → List ℕ
 data_text word = statement_text (codes ".word") (kinds.Word ∷ []) (record
-    (blank false false) { wide = word })
+    (no_operands false false) { wide = word })
 
 -- the statement of the instruction that the word is, or the word as a number where it has none
 abbrev pub text_by : Option Mnemonic → ℕ → List ℕ

@@ -5,7 +5,7 @@ ghost use Rattle.std.specs.Option.{option_copied};
 ghost use Rattle.rv_forms.specs.Names.{name as name_of_code};
 ghost use Rattle.rv_asm.specs.Labels.{words_in};
 ghost use Rattle.rv_asm.specs.Operands.{view_by};
-ghost use Rattle.rv_asm.specs.Statements.{blank, data_words, li_words, instruction_words, statement};
+ghost use Rattle.rv_asm.specs.Statements.{no_operands, data_words, li_words, instruction_words, statement};
 ghost use Rattle.rv_asm.specs.Words.{words_of};
 
 use crate::fault::Why;
@@ -22,8 +22,8 @@ pub enum Words {
 }
 
 /// No value yet, with these order bits.
-fn blank(aq: bool, rl: bool) -> Operands
-    ensures { result ≡ blank aq rl }
+fn no_operands(aq: bool, rl: bool) -> Operands
+    ensures { result ≡ no_operands aq rl }
 {
     Operands {
         rd: 0,
@@ -41,7 +41,7 @@ fn data_words<'t>(context: &Context<'_, 't>, rest: Option<&'t [u8]>) -> Result<W
     ensures { view_by words_of result
         ≡ data_words (words_in context.now.labels.now) context.now.here (option_copied rest.entry) }
 {
-    let values = operands(context, &[Kind::Word], rest, blank(false, false))?;
+    let values = operands(context, &[Kind::Word], rest, no_operands(false, false))?;
     Ok(Words::One(values.wide))
 }
 
@@ -50,7 +50,12 @@ fn li_words<'t>(context: &Context<'_, 't>, rest: Option<&'t [u8]>) -> Result<Wor
     ensures { view_by words_of result
         ≡ li_words (words_in context.now.labels.now) context.now.here (option_copied rest.entry) }
 {
-    let values = operands(context, &[Kind::Rd, Kind::Value], rest, blank(false, false))?;
+    let values = operands(
+        context,
+        &[Kind::Rd, Kind::Value],
+        rest,
+        no_operands(false, false),
+    )?;
     let (upper, lower) = load_words(values.rd, values.wide);
     Ok(Words::Two(upper, lower))
 }
@@ -69,7 +74,7 @@ fn instruction_words<'t>(
         None => Err(Why::Word),
         Some(name) => {
             let kinds = kinds_of(name.mnemonic.syntax);
-            let values = operands(context, kinds, rest, blank(name.aq, name.rl))?;
+            let values = operands(context, kinds, rest, no_operands(name.aq, name.rl))?;
             Ok(Words::One(word_of(name.mnemonic, values)))
         }
     }

@@ -2,11 +2,11 @@
 
 ghost use Rattle.std.specs.Prelude.{◌≡◌, Some, IsTrue, [], ◌∷◌, ◌++◌, OnOk, OnErr, decimal, option_map};
 ghost use Rattle.std.specs.String.{string_bytes};
-ghost use Rattle.ascii_text.specs.Hexadecimal.{Begins};
+ghost use Rattle.shared_definitions.specs.Begins.{Begins};
 ghost use Rattle.rv_isa.specs.Fields.{aq, rl};
 ghost use Rattle.rv_forms.specs.Names.{mnemonic};
 ghost use Rattle.rv_asm.specs.Program.{Assembles};
-ghost use Rattle.rv_asm.specs.Statements.{blank};
+ghost use Rattle.rv_asm.specs.Statements.{no_operands};
 ghost use Rattle.rv_asm.specs.Texts.{register_text, signed_text, upper_text, bracket_text, word_text, operand_text, operand_texts, statement_text, data_text, text_by, text_of, is_one_line};
 
 use ascii_text::{push_hexadecimal, push_hexadecimal_digits};

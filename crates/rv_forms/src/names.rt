@@ -4,7 +4,7 @@ ghost use Rattle.std.specs.Prelude.{◌≡◌, ◌∷◌, ◌++◌, OnOk, OnErr,
 ghost use Rattle.std.specs.Option.{option_copied};
 ghost use Rattle.std.specs.String.{string_bytes};
 ghost use Rattle.shared_definitions.specs.Ascii.{full_stop};
-ghost use Rattle.ascii_text.specs.Hexadecimal.{Begins};
+ghost use Rattle.shared_definitions.specs.Begins.{Begins};
 ghost use Rattle.rv_forms.specs.Forms.{is_ordered};
 ghost use Rattle.rv_forms.specs.Names.{mnemonic, name, order_of, order_after, order_text, with_order, name_text, name_of};
 

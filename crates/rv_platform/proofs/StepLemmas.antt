@@ -1,7 +1,7 @@
 -- Steps, one after the other, with the frames that they send.
 use Rattle.std.proofs.Common.{◌≡◌, ◌≢◌, ℕ, zero, suc, ◌+◌, ◌<◌, ◌≤◌, List, [], ◌++◌, refl, sym, ap, ◌∙◌, arith, add-one, append_assoc, append-nil, ⊎_elim}
 use Rattle.std.proofs.lemmas.Bool.{cases_lt}
-use Rattle.virtio_net.specs.Send.{Begins}
+use Rattle.shared_definitions.specs.Begins.{Begins}
 use Rattle.virtio_net.proofs.SendLemmas.{after_empty, before_empty}
 use Rattle.rv_platform.specs.Step.{PlatformState, Step, quiet, run_steps, step, then_step}
 use Rattle.rv_platform.specs.Settled.{KeepsKinds, Leaves}

@@ -4,7 +4,7 @@ ghost use Rattle.std.specs.Prelude.{◌≡◌, ◌≢◌, ℕ, false, [], OnOk, 
 ghost use Rattle.rv_isa.specs.Table.{IsEncodable, decode};
 ghost use Rattle.rv_core.specs.Effect.{IsWordOf};
 ghost use Rattle.rv_traps.specs.Trap.{pending_interrupt};
-ghost use Rattle.virtio_net.specs.Send.{Begins};
+ghost use Rattle.shared_definitions.specs.Begins.{Begins};
 ghost use Rattle.rv_platform.specs.Settled.{IsSettled, KeepsKinds, Leaves, platform_of};
 ghost use Rattle.rv_platform.specs.Step.{csrs_of, decode_step, enter_by, execute_step, platform_with, quiet, run_steps, send_frames, serve_notify, step, step_from, take_trap};
 

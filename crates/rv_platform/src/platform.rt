@@ -3,7 +3,7 @@
 ghost use Rattle.std.specs.Prelude.{◌≡◌, ◌≢◌, [], ◌%◌, ◌≤◌, length, IsTrue, OnOk, OnErr};
 ghost use Rattle.virtio_net.specs.Port.{port_of};
 ghost use Rattle.virtio_net.specs.Receive.{can_receive};
-ghost use Rattle.virtio_net.specs.Send.{Begins};
+ghost use Rattle.shared_definitions.specs.Begins.{Begins};
 ghost use Rattle.page_track.specs.Memory.{with_part};
 ghost use Rattle.shared_definitions.specs.Memory.{is_inside};
 ghost use Rattle.rv_platform.specs.Devices.{advance_clock, receive_frame, serve_block, start_platform};

@@ -15,7 +15,7 @@ use Rattle.settle_rules.specs.Progress.{Progress}
 use Rattle.settle_rules.specs.Release.{release_bare, release_refusal, release_reset, release_symbols, symbol_segments}
 use Rattle.settle_rules.specs.Settle.{age_after, age_key_of, grow_older, settle_one, shown_after, agrees_on_reset, goes_out, is_empty, new_edge, release_again, release_span, wants_bare}
 use Rattle.settle_history.specs.Laws.{AgreeFromBase, ReadsFromTheBase, with_symbols}
-use Rattle.line_settle.specs.Parts.{aged, all_out, bare_goes, last_after, plain_out, refusal_goes, settled_progress, symbols_out}
+use Rattle.line_settle.specs.Parts.{grow_if_turn, all_out, bare_goes, last_after, plain_out, refusal_goes, settled_progress, symbols_out}
 
 -- from any offset on that is not below the base
 pub from_base : (base from : ℕ) (xs zs : List Symbol) → base ≤ from → drop base xs ≡ drop base zs →
@@ -149,7 +149,7 @@ older_alike b xs ys q low e f =
 
 aged_alike : (b : BothLines) (xs ys : List Symbol) (is_turn : Bool) (q : Progress) → b.mine.base ≤ q.edge
     → AgreeFromBase b.mine xs → AgreeFromBase b.theirs ys
-    → aged (with_symbols b xs ys) is_turn q ≡ aged b is_turn q
+    → grow_if_turn (with_symbols b xs ys) is_turn q ≡ grow_if_turn b is_turn q
 aged_alike b xs ys true q low e f = older_alike b xs ys q low e f
 aged_alike b xs ys false q low e f = refl
 
@@ -174,7 +174,7 @@ settles_alike b xs ys p is_turn tooks low e f =
     } in
     settle_one_is (with_symbols b xs ys) p is_turn tooks
     ∙ ((λ i. record {
-      progress = aged (with_symbols b xs ys) is_turn (q i);
+      progress = grow_if_turn (with_symbols b xs ys) is_turn (q i);
       out = plain i ++ release_refusal b b.mine.refused (refusal_goes b p);
     })
     ∙ ((λ i. record {

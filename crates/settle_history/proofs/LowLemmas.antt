@@ -4,7 +4,7 @@ use Rattle.inet_frame.specs.Counted.{tuple_of}
 use Rattle.inet_frame.specs.Fields.{TcpFields}
 use Rattle.inet_frame.specs.Flags.{has_rst, has_syn}
 use Rattle.inet_frame.specs.declared.tuple.Tuple.{Tuple}
-use Rattle.tcp_track.specs.Lines.{Item, sent, trim, commit, Line, no_line, after_segment, after_trim, has_ended, line, line_after, line_with, longer, opened_line, refused_line, trim_end}
+use Rattle.tcp_track.specs.Lines.{Item, sent, trim, commit, Line, no_line, after_segment, after_trim, has_ended, line, line_after, line_with, lengthen, opened_line, refused_line, trim_end}
 use Rattle.tcp_track.specs.Segments.{Symbol, is_refusal, opens_anew, same_tuple, start_of, symbols_in}
 use Rattle.tcp_track.specs.Stands.{is_of_client}
 use Rattle.tcp_track.specs.declared.openings.Opening.{Opening}
@@ -14,7 +14,8 @@ pub record IsLow (l : Line) : Type 0 where
   pub low : l.base ≤ length l.symbols
   pub closed : is_some l.opening ≡ false → l.base ≡ 0
 
-longer_more : (symbols : List Symbol) (from : ℕ) (new : List Symbol) → length symbols ≤ length (longer symbols from new)
+longer_more : (symbols : List Symbol) (from : ℕ) (new : List Symbol) →
+    length symbols ≤ length (lengthen symbols from new)
 longer_more symbols from new = by (has_ended symbols || nat_lt (length symbols) from)
   where
     by : (b : Bool) → length symbols ≤ length (if b then symbols else symbols ++ drop (length symbols - from) new)
@@ -22,7 +23,7 @@ longer_more symbols from new = by (has_ended symbols || nat_lt (length symbols) 
     by false = omega (arith, length-append symbols (drop (length symbols - from) new))
 
 with_more : (b : Bool) (symbols : List Symbol) (from : ℕ) (new : List Symbol) →
-    length symbols ≤ length (if b then symbols else longer symbols from new)
+    length symbols ≤ length (if b then symbols else lengthen symbols from new)
 with_more true symbols from new = omega arith
 with_more false symbols from new = longer_more symbols from new
 

@@ -11,7 +11,7 @@ use Rattle.inet_frame.specs.declared.tuple.Tuple.{Tuple}
 use Rattle.tcp_track.specs.Laws.{Call, takes, trims, commits, call_after, item_of, items_of}
 use Rattle.tcp_track.specs.Lines.{Item, sent, trim, commit, line, order, sent_of}
 use Rattle.tcp_track.specs.Stands.{opening_of, segments}
-use Rattle.tcp_track.specs.Tracking.{Tracking, current_at, nothing_tracked, taken, trimmed, committed}
+use Rattle.tcp_track.specs.Tracking.{Tracking, current_at, nothing_tracked, taken, trim_tracking, commit_tracking}
 use Rattle.tcp_track.proofs.OrderLemmas.{keeps_the_order}
 use Rattle.tcp_track.proofs.StandingLemmas.{opening_of_line}
 use Rattle.tcp_track.proofs.SymbolLemmas.{line_fits}
@@ -51,11 +51,11 @@ tracks_counted items tracking frame s e h =
     (tracks_frame items tracking frame h)
 
 pub tracks_trim : (items : List Item) (tracking : Tracking) (t : Tuple) (client to : ℕ) → Tracks items tracking →
-    Tracks (items ++ trim t client to ∷ []) (trimmed tracking t client to)
+    Tracks (items ++ trim t client to ∷ []) (trim_tracking tracking t client to)
 tracks_trim items tracking t client to h = tracks_call items tracking (trims t client to) h
 
 pub tracks_commit : (items : List Item) (tracking : Tracking) → Tracks items tracking →
-    Tracks (items ++ commit ∷ []) (committed tracking)
+    Tracks (items ++ commit ∷ []) (commit_tracking tracking)
 tracks_commit items tracking h = tracks_call items tracking commits h
 
 -- the current opening is that of the line, and of what was sent

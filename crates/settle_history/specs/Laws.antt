@@ -28,7 +28,7 @@ use Rattle.settle_table.specs.declared.causes.Need.{Need}
 use Rattle.settle_table.specs.declared.causes.Need.TheVariants.{Nothing, Differ, Restart, Wait}
 use Rattle.out_compare.specs.Comparing.{Comparing, nothing_compared, take_own, take_heard, learn, settlement_of, need_after, capture, acknowledge, leave_alone}
 use Rattle.out_compare.specs.Comparing as comparer
-use Rattle.out_compare.specs.Look.{look, looked}
+use Rattle.out_compare.specs.Look.{look, look_after}
 use Rattle.out_compare.specs.Noting.{opening_made}
 use Rattle.out_compare.specs.Noting as noting
 use Rattle.out_compare.specs.Surviving.{survive, survivor}
@@ -129,7 +129,7 @@ pub record LooksAs (b : Books) (s : TcpFields) (x : Comparing) : Type 0 where
   pub after : StandsFor (record b {
     mine = b.mine ++ trims_shown s (look x s).seen (look x s).trim;
     theirs = b.theirs ++ trims_shown s (look x s).seen (look x s).trim;
-  }) (looked x s)
+  }) (look_after x s)
 
 abbrev pub LooksAtClient : Type 0
 LooksAtClient = (b : Books) (x : Comparing) (s : TcpFields) → StandsFor b x → LooksAs b s x

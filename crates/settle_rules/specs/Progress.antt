@@ -23,8 +23,8 @@ abbrev pub longest_wait : ℕ
 longest_wait = 256
 
 -- one turn more, up to one past the longest wait: no older connection is a cause
-abbrev pub older : ℕ → ℕ
-older age = min (age + 1) (longest_wait + 1)
+abbrev pub grow_age : ℕ → ℕ
+grow_age age = min (age + 1) (longest_wait + 1)
 
 -- The edge is the number of symbols released. Last are the acknowledgement and window last released
 -- in a segment that is no refusal; shown is the SYN last released; the age is in turns of the

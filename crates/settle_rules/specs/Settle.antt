@@ -11,7 +11,7 @@ use Rattle.tcp_track.specs.declared.answers.What.TheVariants.{Ignored, Opened, R
 use Rattle.tcp_track.specs.declared.openings.Opening.{Opening}
 use Rattle.settle_rules.specs.Matching.{BothLines, client_or_zero, has_one_client, smaller_acked, agreed_ack_window, matched_end, is_unmatched}
 use Rattle.settle_rules.specs.Numbers.{KeptNumber, kept_number, number_or_zero, is_known}
-use Rattle.settle_rules.specs.Progress.{AckWindow, AgeKey, Progress, ProgressTable, older, progress_of, put_progress}
+use Rattle.settle_rules.specs.Progress.{AckWindow, AgeKey, Progress, ProgressTable, grow_age, progress_of, put_progress}
 use Rattle.settle_rules.specs.Release.{Released, tcp, reply, syn_ack, release_symbols, release_bare, release_reset, release_refusal}
 
 -- RULE 1: the symbols below the edge that a segment of the event carries go out again, without the
@@ -91,7 +91,7 @@ same_age_key k l = k.client == l.client && (k.matched == l.matched && k.acked ==
 
 abbrev pub age_after : Progress → AgeKey → Bool → ℕ
 age_after p key unmatched =
-    if unmatched then (if same_age_key p.age_key key then older p.age else 1) else 0
+    if unmatched then (if same_age_key p.age_key key then grow_age p.age else 1) else 0
 
 abbrev pub grow_older : BothLines → ℕ → Progress → Progress
 grow_older b m p = record p {

@@ -2,7 +2,7 @@
 
 ghost use Rattle.std.specs.Prelude.{◌≡◌, ◌≤◌, ◌++◌, map, OnOk, OnErr};
 ghost use Rattle.line_release.specs.Both.{both_of};
-ghost use Rattle.line_release.specs.Prefix.{Begins};
+ghost use Rattle.shared_definitions.specs.Begins.{Begins};
 ghost use Rattle.line_match.specs.Untrimmed.{IsUntrimmed};
 ghost use Rattle.settle_rules.specs.Release.{released_frame};
 ghost use Rattle.settle_rules.specs.Settle.{settle_or_rest};

@@ -3,9 +3,9 @@ use Rattle.std.proofs.Common.{◌≡◌, ℕ, ◌+◌, ◌-◌, ◌<◌, Bool, t
 use Rattle.std.proofs.lemmas.Bool.Decides.{nat_tests}
 use Rattle.tcp_track.specs.declared.answers.Took.{Took}
 use Rattle.settle_rules.specs.Matching.{BothLines, is_unmatched, matched_end}
-use Rattle.settle_rules.specs.Progress.{Progress, older}
+use Rattle.settle_rules.specs.Progress.{Progress, grow_age}
 use Rattle.settle_rules.specs.Settle.{Settled, age_key_of, grow_older, same_age_key, settle_one}
-use Rattle.line_settle.specs.Parts.{aged, all_out, bare_goes, plain_out, settled_progress, symbols_out}
+use Rattle.line_settle.specs.Parts.{grow_if_turn, all_out, bare_goes, plain_out, settled_progress, symbols_out}
 use Rattle.line_settle.proofs.PartLemmas.{settle_one_is}
 use Rattle.settle_touched.specs.Ages.{IsSince, age_now, progress_now, stored_after}
 use Rattle.settle_touched.specs.Laws.{SettlesWhatIsStored, StoresSince}
@@ -15,14 +15,14 @@ use Rattle.settle_touched.specs.declared.stored.Stored.{Stored}
 
 -- an age at the end of a turn
 abbrev next_age : Bool → Bool → ℕ → ℕ
-next_age unmatched same age = if unmatched then (if same then older age else 1) else 0
+next_age unmatched same age = if unmatched then (if same then grow_age age else 1) else 0
 
 begins : (turns : ℕ) → min ((turns + 1) - turns) 257 ≡ 1
 begins turns = omega arith
 
 goes_on : (age since turns : ℕ) → nat_lt 0 age ≡ true → since < turns →
-    older (min (turns - since) 257)
-    ≡ (if nat_lt 0 (older age) then min ((turns + 1) - (if older age == 1 then turns else since)) 257 else 0)
+    grow_age (min (turns - since) 257)
+    ≡ (if nat_lt 0 (grow_age age) then min ((turns + 1) - (if grow_age age == 1 then turns else since)) 257 else 0)
 goes_on age since turns w low = grind (arith, nat_tests)
 
 no_age : (age : ℕ) → nat_lt 0 age ≡ false → age ≡ 0
@@ -36,11 +36,11 @@ ages_meet false same age since turns h = refl
 ages_meet true false age since turns h = sym (begins turns)
 ages_meet true true age since turns h = by (nat_lt 0 age) refl
   where
-    by : (b : Bool) → nat_lt 0 age ≡ b → older (if b then min (turns - since) 257 else 0)
-        ≡ (if nat_lt 0 (older age) then min ((turns + 1) - (if older age == 1 then turns else since)) 257 else 0)
+    by : (b : Bool) → nat_lt 0 age ≡ b → grow_age (if b then min (turns - since) 257 else 0)
+        ≡ (if nat_lt 0 (grow_age age) then min ((turns + 1) - (if grow_age age == 1 then turns else since)) 257 else 0)
     by true e = goes_on age since turns e (h e)
     by false e = subst (λ (n : ℕ). 1
-        ≡ (if nat_lt 0 (older n) then min ((turns + 1) - (if older n == 1 then turns else since)) 257 else 0))
+        ≡ (if nat_lt 0 (grow_age n) then min ((turns + 1) - (if grow_age n == 1 then turns else since)) 257 else 0))
         (sym (no_age age e)) (sym (begins turns))
 
 either : (c : Bool) (m n bound : ℕ) → m < bound → n < bound → (if c then m else n) < bound
@@ -54,10 +54,10 @@ waits_since false same age since turns h w = absurd (true≢false (sym w))
 waits_since true false age since turns h w = omega arith
 waits_since true true age since turns h w = by (nat_lt 0 age) refl
   where
-    by : (b : Bool) → nat_lt 0 age ≡ b → (if older age == 1 then turns else since) < turns + 1
+    by : (b : Bool) → nat_lt 0 age ≡ b → (if grow_age age == 1 then turns else since) < turns + 1
     by true e =
-        let low = h e in either (older age == 1) turns since (turns + 1) (omega arith) (omega (arith, low))
-    by false e = subst (λ (n : ℕ). (if older n == 1 then turns else since) < turns + 1) (sym (no_age age e))
+        let low = h e in either (grow_age age == 1) turns since (turns + 1) (omega arith) (omega (arith, low))
+    by false e = subst (λ (n : ℕ). (if grow_age n == 1 then turns else since) < turns + 1) (sym (no_age age e))
         (omega arith)
 
 -- ONE CONNECTION
@@ -68,7 +68,7 @@ with_age p age = record p { age = age }
 -- settling reads no age before it counts it
 settles_with_age : (b : BothLines) (p : Progress) (age : ℕ) (is_turn : Bool) (tooks : List Took) →
     settle_one b (with_age p age) is_turn tooks ≡ record {
-      progress = aged b is_turn (with_age (settled_progress b p (plain_out b p tooks)) age);
+      progress = grow_if_turn b is_turn (with_age (settled_progress b p (plain_out b p tooks)) age);
       out = all_out b p tooks;
     }
 unfolding settle_one symbols_out bare_goes plain_out all_out

@@ -16,7 +16,7 @@ use Rattle.tcp_track.specs.declared.table.Entry.{Entry}
 use Rattle.tcp_track.proofs.StandingLemmas.{same_tuple-sym}
 use Rattle.tcp_track.proofs.TupleLemmas.{same_tuple-eq, same_tuple-refl}
 use Rattle.settle_rules.specs.Matching.{BothLines}
-use Rattle.settle_rules.specs.Progress.{Progress, ProgressTable, older}
+use Rattle.settle_rules.specs.Progress.{Progress, ProgressTable, grow_age}
 use Rattle.settle_rules.specs.Settle.{Settled, Settlement, settle_or_rest}
 use Rattle.settle_table.specs.Kept.{KeptScene, add_tuple, both_kept, is_restarted, line_settled, settle_found, settle_kept, settle_kept_tuple, settle_line, tuples_of}
 use Rattle.settle_table.specs.Table.{set_progress}
@@ -54,8 +54,8 @@ turn_goes_on turns s h = by (nat_lt 0 s.progress.age) refl
         age_in_turn (if c then min (turns - s.since) 257 else 0) ≡ (if c then min ((turns + 1) - s.since) 257 else 0)
     by true e =
         let low = h e in
-        let next : older (min (turns - s.since) 257) ≡ min ((turns + 1) - s.since) 257 = omega (arith, low) in
-        ap (λ (c : Bool). if c then older (min (turns - s.since) 257) else 0) (low_min turns s.since low) ∙ next
+        let next : grow_age (min (turns - s.since) 257) ≡ min ((turns + 1) - s.since) 257 = omega (arith, low) in
+        ap (λ (c : Bool). if c then grow_age (min (turns - s.since) 257) else 0) (low_min turns s.since low) ∙ next
     by false e = refl
 
 quiet_now : (b : BothLines) (turns : ℕ) (s : Stored) → IsQuiet b s.progress → IsQuiet b (progress_now turns s)

@@ -5,10 +5,10 @@ use Rattle.std.specs.List.{common_prefix_len, flat_map, list_any}
 use Rattle.tcp_track.specs.Segments.{Symbol, same_symbol, same_tuple}
 use Rattle.tcp_track.specs.declared.answers.Took.{Took}
 use Rattle.settle_rules.specs.Matching.{BothLines, agreed_ack_window, client_or_zero, has_one_client, is_unmatched, matched_end}
-use Rattle.settle_rules.specs.Progress.{AckWindow, AgeKey, Progress, older}
+use Rattle.settle_rules.specs.Progress.{AckWindow, AgeKey, Progress, grow_age}
 use Rattle.settle_rules.specs.Release.{Released, release_bare, release_refusal, release_reset}
 use Rattle.settle_rules.specs.Settle.{Settled, age_key_of, agrees_on_reset, goes_out, grow_older, is_bare, is_empty, new_edge, release_again, release_span, same_ack_window, same_age_key, same_number, settle_one, shown_after, wants_bare}
-use Rattle.line_settle.specs.Parts.{aged, all_out, bare_goes, last_after, plain_out, refusal_goes, reset_goes, settled_progress, symbols_out}
+use Rattle.line_settle.specs.Parts.{grow_if_turn, all_out, bare_goes, last_after, plain_out, refusal_goes, reset_goes, settled_progress, symbols_out}
 use Rattle.line_settle.proofs.PartLemmas.{settle_one_is}
 use Rattle.line_settle.proofs.ShownLemmas.{release_nothing}
 use Rattle.settle_touched.specs.Laws.{QuietSettlesToNothing, SettlingMakesQuiet, TimedGrowsOlder, TurnMakesTimed}
@@ -87,10 +87,10 @@ quiet_out b p tooks q h = λ i. no_plain b p tooks q h i ++ no_refusal b (refusa
 
 pub settles_quiet : (b : BothLines) (p : Progress) (is_turn : Bool) (tooks : List Took) → IsQuiet b p →
     has_segment b.tuple tooks ≡ false →
-    settle_one b p is_turn tooks ≡ record { progress = aged b is_turn p; out = [] }
+    settle_one b p is_turn tooks ≡ record { progress = grow_if_turn b is_turn p; out = [] }
 settles_quiet b p is_turn tooks q h =
     settle_one_is b p is_turn tooks
-    ∙ (λ i. record { progress = aged b is_turn (stays b p tooks q h i); out = quiet_out b p tooks q h i })
+    ∙ (λ i. record { progress = grow_if_turn b is_turn (stays b p tooks q h i); out = quiet_out b p tooks q h i })
 
 pub quiet_settles_to_nothing : QuietSettlesToNothing
 quiet_settles_to_nothing b p tooks q h = settles_quiet b p false tooks q h
@@ -103,10 +103,10 @@ pub timed_older : (b : BothLines) (p : Progress) → IsTimed b p →
 timed_older b p t =
     let key = age_key_of b (matched_end b p.edge) in
     (λ i. record p {
-      age = if t.waits i then (if same_age_key (t.key i) key then older p.age else 1) else 0;
+      age = if t.waits i then (if same_age_key (t.key i) key then grow_age p.age else 1) else 0;
       age_key = sym t.key i;
     })
-    ∙ (λ i. record p { age = if nat_lt 0 p.age then (if same_key key i then older p.age else 1) else 0 })
+    ∙ (λ i. record p { age = if nat_lt 0 p.age then (if same_key key i then grow_age p.age else 1) else 0 })
 
 pub timed_grows_older : TimedGrowsOlder
 timed_grows_older b p tooks q t h =
@@ -215,7 +215,7 @@ settled_quiet b p tooks = record {
 }
 
 -- an age changes nothing of it
-aged_quiet : (b : BothLines) (p : Progress) (is_turn : Bool) → IsQuiet b p → IsQuiet b (aged b is_turn p)
+aged_quiet : (b : BothLines) (p : Progress) (is_turn : Bool) → IsQuiet b p → IsQuiet b (grow_if_turn b is_turn p)
 aged_quiet b p true q = record { edge = q.edge; said = q.said; reset = q.reset; refusal = q.refusal }
 aged_quiet b p false q = q
 
@@ -224,11 +224,11 @@ settling_makes_quiet b p is_turn tooks =
     subst (λ (s : Settled). IsQuiet b s.progress) (sym (settle_one_is b p is_turn tooks))
     (aged_quiet b (settled_progress b p (plain_out b p tooks)) is_turn (settled_quiet b p tooks))
 
-older_waits : (age : ℕ) → nat_lt 0 (older age) ≡ true
+older_waits : (age : ℕ) → nat_lt 0 (grow_age age) ≡ true
 older_waits age = grind (arith, nat_tests)
 
 age_waits : (unmatched same : Bool) (age : ℕ) →
-    unmatched ≡ nat_lt 0 (if unmatched then (if same then older age else 1) else 0)
+    unmatched ≡ nat_lt 0 (if unmatched then (if same then grow_age age else 1) else 0)
 age_waits true true age = sym (older_waits age)
 age_waits true false age = refl
 age_waits false same age = refl

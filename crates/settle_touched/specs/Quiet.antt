@@ -6,7 +6,7 @@ use Rattle.inet_frame.specs.declared.tuple.Tuple.{Tuple}
 use Rattle.tcp_track.specs.Segments.{same_tuple}
 use Rattle.tcp_track.specs.declared.answers.Took.{Took}
 use Rattle.settle_rules.specs.Matching.{BothLines, agreed_ack_window, is_unmatched, matched_end}
-use Rattle.settle_rules.specs.Progress.{Progress, older}
+use Rattle.settle_rules.specs.Progress.{Progress, grow_age}
 use Rattle.settle_rules.specs.Settle.{age_key_of, agrees_on_reset, new_edge, same_ack_window, same_number}
 
 -- nothing goes out where the event has no segment of the connection: no symbol is newly agreed, the
@@ -29,4 +29,4 @@ has_segment t tooks = list_any (λ (k : Took). same_tuple k.tuple t) tooks
 
 -- the age after one turn more, which only one that waits has
 abbrev pub age_in_turn : ℕ → ℕ
-age_in_turn age = if nat_lt 0 age then older age else 0
+age_in_turn age = if nat_lt 0 age then grow_age age else 0

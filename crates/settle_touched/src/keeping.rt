@@ -3,7 +3,7 @@
 ghost use Rattle.std.specs.Prelude.{◌≡◌, ℕ, ◌+◌, ◌<◌, ◌^◌, ◌++◌, true, map, slice_get, Some, OnOk, OnErr};
 ghost use Rattle.inet_frame.specs.declared.tuple.Tuple.{Tuple};
 ghost use Rattle.tcp_track.specs.declared.table.Entry.{Entry};
-ghost use Rattle.line_release.specs.Prefix.{Begins};
+ghost use Rattle.shared_definitions.specs.Begins.{Begins};
 ghost use Rattle.settle_rules.specs.Release.{released_frame};
 ghost use Rattle.settle_table.specs.Kept.{is_restarted, settle_kept};
 ghost use Rattle.settle_table.specs.Scenes.{kept_scene};

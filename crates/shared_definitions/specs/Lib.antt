@@ -1,4 +1,5 @@
 pub mod Ascii
+pub mod Begins
 pub mod Bytes
 pub mod FirstOf
 pub mod Halves

@@ -42,15 +42,15 @@ takes_secondary AfterCommit = true
 takes_secondary (Between e) = false
 takes_secondary BeforeCapture = false
 
-abbrev pub counted : Part → Token → List Taken
-counted part (by_primary t) = if takes_primary part then t ∷ [] else []
-counted part (by_secondary t) = if takes_secondary part then t ∷ [] else []
-counted part (captures e) = []
-counted part (commits e) = []
+abbrev pub taken_of : Part → Token → List Taken
+taken_of part (by_primary t) = if takes_primary part then t ∷ [] else []
+taken_of part (by_secondary t) = if takes_secondary part then t ∷ [] else []
+taken_of part (captures e) = []
+taken_of part (commits e) = []
 
 abbrev pub all_counted : Part → List Token → List Taken
 all_counted part [] = []
-all_counted part (t ∷ tokens) = counted part t ++ all_counted part tokens
+all_counted part (t ∷ tokens) = taken_of part t ++ all_counted part tokens
 
 -- the turns of a log that is read from its end, in the order of the log
 abbrev pub counted_back : (ℕ → Option (Option Opening)) → Part → List Record → List Turn

@@ -10,7 +10,7 @@ use Rattle.inet_frame.specs.declared.tuple.Tuple.{Tuple}
 use Rattle.tcp_track.specs.Segments.{same_tuple, may_open, is_refusal}
 use Rattle.tcp_track.specs.Lines.{sent, sent_of, order_after, order}
 use Rattle.tcp_track.specs.LineFields.{fields_after, fields_trimmed}
-use Rattle.tcp_track.specs.Tracking.{Tracking, nothing_tracked, entry_of, entry_or_none, put_entry, entries_after, trim_entry, tracking_after, tracking_with, trimmed, commit_entry, committed}
+use Rattle.tcp_track.specs.Tracking.{Tracking, nothing_tracked, entry_of, entry_or_none, put_entry, entries_after, trim_entry, tracking_after, tracking_with, trim_tracking, commit_entry, commit_tracking}
 use Rattle.tcp_track.specs.Laws.{Call, takes, trims, commits, call_after, items_of}
 use Rattle.tcp_track.specs.declared.table.Entry.{Entry}
 use Rattle.tcp_track.proofs.TupleLemmas.{is_some-lookup, keys_of-put_entry}
@@ -55,7 +55,7 @@ keys-commit (x ∷ xs) = ap (λ ks. x.0 ∷ ks) (keys-commit xs)
 
 keys-calls : (calls : List Call) (tracking : Tracking) → keys_of (fold call_after tracking calls).entries
     ≡ fold order_after (keys_of tracking.entries) (sent_of (items_of calls))
-unfolding tracking_after trimmed
+unfolding tracking_after trim_tracking
 keys-calls [] tracking = refl
 keys-calls (takes frame ∷ calls) tracking = by (counted frame) (keys-calls calls)
   where
@@ -66,9 +66,9 @@ keys-calls (takes frame ∷ calls) tracking = by (counted frame) (keys-calls cal
     by None more = more tracking
     by (Some s) more = more (tracking_after tracking s) ∙ ap (λ ks. fold order_after ks (sent_of (items_of calls)))
         (keys-segment tracking.entries s)
-keys-calls (trims u client to ∷ calls) tracking = keys-calls calls (trimmed tracking u client to)
+keys-calls (trims u client to ∷ calls) tracking = keys-calls calls (trim_tracking tracking u client to)
     ∙ ap (λ ks. fold order_after ks (sent_of (items_of calls))) (keys-trim tracking.entries u client to)
-keys-calls (commits ∷ calls) tracking = keys-calls calls (committed tracking)
+keys-calls (commits ∷ calls) tracking = keys-calls calls (commit_tracking tracking)
     ∙ ap (λ ks. fold order_after ks (sent_of (items_of calls))) (keys-commit tracking.entries)
 
 pub keeps_the_order : (calls : List Call) → keys_of (fold call_after nothing_tracked calls).entries

@@ -12,9 +12,9 @@ use Rattle.inet_frame.specs.declared.tuple.Tuple.{Tuple}
 use Rattle.tcp_track.specs.Segments.{same_tuple, same_opening, may_open, is_refusal, opens_anew, opening_in, refused_in, start_of}
 use Rattle.tcp_track.specs.Stands.{is_of_client}
 use Rattle.tcp_track.specs.Lines.{sent, line}
-use Rattle.tcp_track.specs.LineFields.{LineFields, fields_refused, fields_reset, fields_opened, fields_with, fields_after, fields_trimmed, cut, bytes_end, grows, grown}
+use Rattle.tcp_track.specs.LineFields.{LineFields, fields_refused, fields_reset, fields_opened, fields_with, fields_after, fields_trimmed, cut, bytes_end, grows, grow_fields}
 use Rattle.tcp_track.specs.Restarts.{Openings, no_openings, openings_after, openings, is_known_client as is_known_opening, is_restart}
-use Rattle.tcp_track.specs.Tracking.{Tracking, nothing_tracked, entry_of, entry_or_none, no_entry, put_entry, entries_after, trim_entry, tracking_after, tracking_with, trimmed, commit_entry, committed, same_incarnation, insert_incarnation, since_after, current_at, is_known_client, what_of, what_in, took_in, span_in}
+use Rattle.tcp_track.specs.Tracking.{Tracking, nothing_tracked, entry_of, entry_or_none, no_entry, put_entry, entries_after, trim_entry, tracking_after, tracking_with, trim_tracking, commit_entry, commit_tracking, same_incarnation, insert_incarnation, since_after, current_at, is_known_client, what_of, what_in, took_in, span_in}
 use Rattle.tcp_track.specs.Laws.{Call, takes, trims, commits, call_after, items_of, took_after}
 use Rattle.tcp_track.specs.declared.openings.Opening.{Opening}
 use Rattle.tcp_track.specs.declared.openings.Incarnation.{Incarnation}
@@ -30,7 +30,7 @@ opening-with : (k : LineFields) (o : Option Opening) (s : TcpFields) → (fields
 opening-with k None s = refl
 opening-with k (Some o) s = by (grows k o.own s)
   where
-    by : (b : Bool) → (if b then grown k (start_of o.own s) s else k).opening ≡ k.opening
+    by : (b : Bool) → (if b then grow_fields k (start_of o.own s) s else k).opening ≡ k.opening
     by true = refl
     by false = refl
 
@@ -306,8 +306,8 @@ knows_segment t o tracking s h = by (same_tuple (tuple_of s) t) refl
     by false p = knows_other t o tracking s (same_tuple-sym t (tuple_of s) p) h
 
 knows_trim : (t u : Tuple) (o : Openings) (tracking : Tracking) (client to : ℕ) → Knows t o tracking →
-    Knows t o (trimmed tracking u client to)
-unfolding trimmed
+    Knows t o (trim_tracking tracking u client to)
+unfolding trim_tracking
 knows_trim t u o tracking client to h = record {
   current = h.current ∙ sym has.0;
   at_commit = h.at_commit ∙ sym has.1;
@@ -342,7 +342,7 @@ knows_trim t u o tracking client to h = record {
     has = by (entry_of es u) refl (same_tuple u t) refl
 
 knows_commit : (t : Tuple) (o : Openings) (tracking : Tracking) → Knows t o tracking →
-    Knows t (record { current = o.current; at_commit = o.current; since = [] }) (committed tracking)
+    Knows t (record { current = o.current; at_commit = o.current; since = [] }) (commit_tracking tracking)
 knows_commit t o tracking h = record {
   current = h.current ∙ sym (ap (λ (x : Option Entry). (unwrap_or x no_entry).line.opening) at
       ∙ by_current (entry_of tracking.entries t));
@@ -376,10 +376,10 @@ knows_calls t (takes frame ∷ calls) o tracking h = by (counted frame) (knows_c
         (tracking_with tracking x) calls)
     by None more = more o tracking h
     by (Some s) more = more (openings_after t o (sent s)) (tracking_after tracking s) (knows_segment t o tracking s h)
-knows_calls t (trims u client to ∷ calls) o tracking h = knows_calls t calls o (trimmed tracking u client to)
+knows_calls t (trims u client to ∷ calls) o tracking h = knows_calls t calls o (trim_tracking tracking u client to)
     (knows_trim t u o tracking client to h)
 knows_calls t (commits ∷ calls) o tracking h = knows_calls t calls
-    (record { current = o.current; at_commit = o.current; since = [] }) (committed tracking)
+    (record { current = o.current; at_commit = o.current; since = [] }) (commit_tracking tracking)
     (knows_commit t o tracking h)
 
 -- THE ANSWER

@@ -11,7 +11,7 @@ use Rattle.inet_frame.specs.declared.tuple.Tuple.{Tuple}
 use Rattle.tcp_track.specs.Segments.{same_tuple, may_open, is_refusal}
 use Rattle.tcp_track.specs.Lines.{sent, trim, Line, no_line, refused_line, opened_line, after_segment, after_trim, line_after, line}
 use Rattle.tcp_track.specs.LineFields.{fields_after, fields_trimmed}
-use Rattle.tcp_track.specs.Tracking.{Tracking, nothing_tracked, entry_of, entry_or_none, no_entry, put_entry, entries_after, trim_entry, tracking_after, tracking_with, trimmed, commit_entry, committed}
+use Rattle.tcp_track.specs.Tracking.{Tracking, nothing_tracked, entry_of, entry_or_none, no_entry, put_entry, entries_after, trim_entry, tracking_after, tracking_with, trim_tracking, commit_entry, commit_tracking}
 use Rattle.tcp_track.specs.Laws.{Call, takes, trims, commits, call_after, items_of, IsHeld}
 use Rattle.tcp_track.specs.declared.table.Entry.{Entry}
 use Rattle.tcp_track.proofs.TupleLemmas.{same_tuple-refl, same_tuple-eq, entry_of-put_same, entry_of-put_other}
@@ -165,7 +165,7 @@ held_commit t l entries h = record {
 -- all calls
 held_calls : (t : Tuple) (calls : List Call) (l : Line) (tracking : Tracking) → Held t l tracking.entries →
     Held t (fold (line_after t) l (items_of calls)) (fold call_after tracking calls).entries
-unfolding line_after tracking_after trimmed
+unfolding line_after tracking_after trim_tracking
 held_calls t [] l tracking h = h
 held_calls t (takes frame ∷ calls) l tracking h = by (counted frame) (held_calls t calls)
   where
@@ -177,8 +177,8 @@ held_calls t (takes frame ∷ calls) l tracking h = by (counted frame) (held_cal
     by (Some s) more = more (line_after t l (sent s)) (tracking_after tracking s)
         (held_segment t l tracking.entries s h)
 held_calls t (trims u client to ∷ calls) l tracking h = held_calls t calls (line_after t l (trim u client to))
-    (trimmed tracking u client to) (held_trim t u l tracking.entries client to h)
-held_calls t (commits ∷ calls) l tracking h = held_calls t calls l (committed tracking)
+    (trim_tracking tracking u client to) (held_trim t u l tracking.entries client to h)
+held_calls t (commits ∷ calls) l tracking h = held_calls t calls l (commit_tracking tracking)
     (held_commit t l tracking.entries h)
 
 pub keeps_each_line : (calls : List Call) (t : Tuple) → IsHeld (line t (items_of calls)) (option_map (λ e. e.line)

@@ -9,7 +9,7 @@ use Rattle.inet_frame.specs.Flags.{has_syn, has_ack, has_rst}
 use Rattle.inet_frame.specs.declared.tuple.Tuple.{Tuple}
 use Rattle.tcp_track.specs.Segments.{Symbol, syn, same_tuple, same_opening, opening_in, may_open, is_refusal, symbols_in, start_of, symbol_in}
 use Rattle.tcp_track.specs.Stands.{opening_after, opening_of, is_of_client, Stands}
-use Rattle.tcp_track.specs.Lines.{Item, Line, no_line, after_segment, opened_line, refused_line, line_with, longer, has_ended, line_after, line, segment_of, sent, trim, commit, after_trim, trim_end}
+use Rattle.tcp_track.specs.Lines.{Item, Line, no_line, after_segment, opened_line, refused_line, line_with, lengthen, has_ended, line_after, line, segment_of, sent, trim, commit, after_trim, trim_end}
 use Rattle.tcp_track.specs.declared.openings.Opening.{Opening}
 use Rattle.tcp_track.proofs.ElementLemmas.{from_end}
 use Rattle.tcp_track.proofs.TupleLemmas.{same_tuple-eq}
@@ -100,7 +100,7 @@ grown_cases false t said s l o k x e on opened f = by (from_end l.symbols (symbo
 -- a repeated SYN adds nothing
 syn_cases : (b : Bool) (t : Tuple) (said : List TcpFields) (s : TcpFields) (l : Line) (o : Opening) (k : ℕ)
     (x : Symbol) → tuple_of s ≡ t → opening_of t (said ++ s ∷ []) ≡ Some o →
-    slice_get (if b then l.symbols else longer l.symbols (start_of o.own s) (symbols_in o.own s)) k ≡ Some x →
+    slice_get (if b then l.symbols else lengthen l.symbols (start_of o.own s) (symbols_in o.own s)) k ≡ Some x →
     (slice_get l.symbols k ≡ Some x) ⊎ Stands (said ++ s ∷ []) t o.client k x
 syn_cases true t said s l o k x on opened f = inl f
 syn_cases false t said s l o k x on opened f = grown_cases (has_ended l.symbols || nat_lt (length l.symbols)

@@ -8,8 +8,8 @@ use Rattle.inet_frame.specs.Fields.{TcpFields}
 use Rattle.inet_frame.specs.Flags.{has_fin, has_syn, has_rst}
 use Rattle.tcp_track.specs.Segments.{Symbol, syn, byte, fin, fin_if, syn_if, same_symbol, opens_anew, is_refusal, symbols_in, payload_symbols, start_of, is_near}
 use Rattle.tcp_track.specs.Stands.{acked_after, is_of_client}
-use Rattle.tcp_track.specs.Lines.{Line, no_line, has_ended, opened_line, refused_line, longer, window_after, line_with, after_segment, trim_end, after_trim}
-use Rattle.tcp_track.specs.LineFields.{LineFields, no_fields, bytes_end, end_of, syn_kept, symbols_kept, IsKept, fields_opened, fields_refused, fields_reset, grows, grown, fields_acked, fields_with, fields_after, cut, fields_trimmed}
+use Rattle.tcp_track.specs.Lines.{Line, no_line, has_ended, opened_line, refused_line, lengthen, window_after, line_with, after_segment, trim_end, after_trim}
+use Rattle.tcp_track.specs.LineFields.{LineFields, no_fields, bytes_end, end_of, syn_kept, symbols_kept, IsKept, fields_opened, fields_refused, fields_reset, grows, grow_fields, fields_acked, fields_with, fields_after, cut, fields_trimmed}
 use Rattle.tcp_track.specs.declared.openings.Opening.{Opening}
 
 -- the whole line and what is kept of it, with what both are by themselves
@@ -99,28 +99,28 @@ unfolding symbols_in
 symbols_in-far own s r y n = λ i. if r i then [] else (if y i then syn_if (s.seq == own) else
     (if n i then payload_symbols s else []))
 
-longer-nothing : (xs : List Symbol) (from : ℕ) → longer xs from [] ≡ xs
+longer-nothing : (xs : List Symbol) (from : ℕ) → lengthen xs from [] ≡ xs
 longer-nothing xs from = by (has_ended xs || nat_lt (length xs) from)
   where
     by : (b : Bool) → (if b then xs else xs ++ drop (length xs - from) []) ≡ xs
     by true = refl
     by false = ap (λ ys. xs ++ ys) (drop-nothing (length xs - from)) ∙ append-nil xs
 
-longer-ended : (xs new : List Symbol) (from : ℕ) → has_ended xs ≡ true → longer xs from new ≡ xs
+longer-ended : (xs new : List Symbol) (from : ℕ) → has_ended xs ≡ true → lengthen xs from new ≡ xs
 longer-ended xs new from p = λ i. if p i || nat_lt (length xs) from then xs else xs ++ drop (length xs - from) new
 
-longer-past : (xs new : List Symbol) (from : ℕ) → has_ended xs ≡ false → length xs < from → longer xs from new ≡ xs
+longer-past : (xs new : List Symbol) (from : ℕ) → has_ended xs ≡ false → length xs < from → lengthen xs from new ≡ xs
 longer-past xs new from p past = let q = lt-ltb (length xs) from past in λ i. if p i || q i then xs else xs
     ++ drop (length xs - from) new
 
 longer-grows : (xs new : List Symbol) (from : ℕ) → has_ended xs ≡ false → from ≤ length xs →
-    longer xs from new ≡ xs ++ drop (length xs - from) new
+    lengthen xs from new ≡ xs ++ drop (length xs - from) new
 longer-grows xs new from p low = let q = le-ltb (length xs) from low in λ i. if p i || q i then xs else xs
     ++ drop (length xs - from) new
 
 -- the symbols of a line after a segment on its opening
 abbrev symbols_with : Line → ℕ → TcpFields → List Symbol
-symbols_with l own s = if has_syn s.flags then l.symbols else longer l.symbols (start_of own s) (symbols_in own s)
+symbols_with l own s = if has_syn s.flags then l.symbols else lengthen l.symbols (start_of own s) (symbols_in own s)
 
 -- what a longer line and what is kept of it have to do with each other
 record Grown (l : Line) (kept : LineFields) (symbols : List Symbol) (bytes : List ℕ) (ends : Bool) : Type 0 where
@@ -142,7 +142,7 @@ same_symbols : (l : Line) (kept : LineFields) (own : ℕ) (s : TcpFields) → Ti
 same_symbols l kept own s h opened r g = by_syn (has_syn s.flags) refl
   where
     by_low : (b : Bool) → nat_le (start_of own s) (bytes_end kept) ≡ b → has_syn s.flags ≡ false →
-        is_near own s ≡ true → kept.fin ≡ false → longer l.symbols (start_of own s) (symbols_in own s) ≡ l.symbols
+        is_near own s ≡ true → kept.fin ≡ false → lengthen l.symbols (start_of own s) (symbols_in own s) ≡ l.symbols
     by_low true p y n f = absurd (true≢false (sym (λ i. not (y i) && (n i && (not (f i) && p i))) ∙ g))
     by_low false p y n f =
         let past : length l.symbols < start_of own s = omega (
@@ -154,17 +154,17 @@ same_symbols l kept own s h opened r g = by_syn (has_syn s.flags) refl
         longer-past l.symbols (symbols_in own s) (start_of own s) (h.ended ∙ f) past
 
     by_fin : (b : Bool) → kept.fin ≡ b → has_syn s.flags ≡ false → is_near own s ≡ true →
-        longer l.symbols (start_of own s) (symbols_in own s) ≡ l.symbols
+        lengthen l.symbols (start_of own s) (symbols_in own s) ≡ l.symbols
     by_fin true f y n = longer-ended l.symbols (symbols_in own s) (start_of own s) (h.ended ∙ f)
     by_fin false f y n = by_low (nat_le (start_of own s) (bytes_end kept)) refl y n f
 
     by_near : (b : Bool) → is_near own s ≡ b → has_syn s.flags ≡ false →
-        longer l.symbols (start_of own s) (symbols_in own s) ≡ l.symbols
+        lengthen l.symbols (start_of own s) (symbols_in own s) ≡ l.symbols
     by_near true n y = by_fin kept.fin refl y n
-    by_near false n y = ap (λ new. longer l.symbols (start_of own s) new) (symbols_in-far own s r y n)
+    by_near false n y = ap (λ new. lengthen l.symbols (start_of own s) new) (symbols_in-far own s r y n)
         ∙ longer-nothing l.symbols (start_of own s)
 
-    by_syn : (b : Bool) → has_syn s.flags ≡ b → (if b then l.symbols else longer l.symbols (start_of own s)
+    by_syn : (b : Bool) → has_syn s.flags ≡ b → (if b then l.symbols else lengthen l.symbols (start_of own s)
         (symbols_in own s)) ≡ l.symbols
     by_syn true y = refl
     by_syn false y = by_near (is_near own s) refl y
@@ -206,8 +206,8 @@ grown_symbols l kept own s h opened r g =
     let ends = has_fin s.flags && nat_le d (length s.payload) in
     let new : List Symbol = map byte (drop d s.payload) ++ fin_if ends in
     let is : symbols_with l own s ≡ l.symbols ++ new =
-    (λ i. if y i then l.symbols else longer l.symbols (start_of own s) (symbols_in own s))
-    ∙ (ap (λ xs. longer l.symbols (start_of own s) xs) (symbols_in-near own s r y rest.0)
+    (λ i. if y i then l.symbols else lengthen l.symbols (start_of own s) (symbols_in own s))
+    ∙ (ap (λ xs. lengthen l.symbols (start_of own s) xs) (symbols_in-near own s r y rest.0)
     ∙ (longer-grows l.symbols (payload_symbols s) (start_of own s) (h.ended ∙ f) (omega (arith, low, len))
     ∙ (ap (λ (n : ℕ). l.symbols ++ drop (n - start_of own s) (payload_symbols s)) len
     ∙ ap (λ xs. l.symbols ++ xs) (drop-payload d s.payload (has_fin s.flags))))) in
@@ -349,7 +349,7 @@ tied_symbols l kept o s opened r h = by (grows kept o.own s) refl
     open_now : is_some l.opening ≡ true
     open_now = ap is_some opened
 
-    by : (b : Bool) → grows kept o.own s ≡ b → Tied (line_with l (Some o) s) (fields_acked (if b then grown kept
+    by : (b : Bool) → grows kept o.own s ≡ b → Tied (line_with l (Some o) s) (fields_acked (if b then grow_fields kept
         (start_of o.own s) s else kept) o s)
     by true g = tied_added l kept o s (symbols_with l o.own s) (kept.bytes
         ++ drop (bytes_end kept - start_of o.own s) s.payload) (has_fin s.flags && nat_le

@@ -11,7 +11,7 @@ use Rattle.tcp_track.specs.Stands.{opening_of, acked_in, Stands, ResetStands, Re
 use Rattle.tcp_track.specs.Lines.{Item, sent, trim, commit, Line, no_line, line, sent_of, order}
 use Rattle.tcp_track.specs.LineFields.{LineFields, IsKept}
 use Rattle.tcp_track.specs.Restarts.{is_restart}
-use Rattle.tcp_track.specs.Tracking.{Tracking, nothing_tracked, line_at, what_of, took_of, taken, trimmed, committed}
+use Rattle.tcp_track.specs.Tracking.{Tracking, nothing_tracked, line_at, what_of, took_of, taken, trim_tracking, commit_tracking}
 use Rattle.tcp_track.specs.declared.answers.Took.{Took}
 use Rattle.tcp_track.specs.declared.openings.Opening.{Opening}
 
@@ -23,8 +23,8 @@ pub data Call : Type 0 where
 
 abbrev pub call_after : Tracking → Call → Tracking
 call_after tracking (takes frame) = taken tracking frame
-call_after tracking (trims t client to) = trimmed tracking t client to
-call_after tracking commits = committed tracking
+call_after tracking (trims t client to) = trim_tracking tracking t client to
+call_after tracking commits = commit_tracking tracking
 
 -- what a new tracker holds after a list of calls
 abbrev pub tracking_of : List Call → Tracking

@@ -102,8 +102,8 @@ abbrev pub grows : LineFields → ℕ → TcpFields → Bool
 grows l own s = not (has_syn s.flags) && (is_near own s && (not l.fin && nat_le (start_of own s)
     (bytes_end l)))
 
-abbrev pub grown : LineFields → ℕ → TcpFields → LineFields
-grown l from s = record l {
+abbrev pub grow_fields : LineFields → ℕ → TcpFields → LineFields
+grow_fields l from s = record l {
   bytes = l.bytes ++ drop
       (bytes_end l - from) s.payload;
   fin = has_fin s.flags && nat_le (bytes_end l - from)
@@ -118,7 +118,7 @@ fields_acked l o s = record l {
 
 abbrev pub fields_with : LineFields → Option Opening → TcpFields → LineFields
 fields_with l None s = l
-fields_with l (Some o) s = fields_acked (if grows l o.own s then grown l
+fields_with l (Some o) s = fields_acked (if grows l o.own s then grow_fields l
     (start_of o.own s) s else l) o s
 
 -- what a segment on the line's tuple leaves

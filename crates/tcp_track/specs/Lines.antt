@@ -75,8 +75,8 @@ refused_line l s = record l {
 
 -- what a segment adds that carries symbols from an offset on: nothing after FIN, nothing where it
 -- starts past the end, else its symbols from the end on
-abbrev pub longer : List Symbol → ℕ → List Symbol → List Symbol
-longer symbols from new = if has_ended symbols || nat_lt
+abbrev pub lengthen : List Symbol → ℕ → List Symbol → List Symbol
+lengthen symbols from new = if has_ended symbols || nat_lt
     (length symbols) from then symbols else symbols ++ drop (length symbols - from) new
 
 -- the window of a segment with ACK
@@ -89,7 +89,7 @@ abbrev pub line_with : Line → Option Opening → TcpFields → Line
 line_with l None s = l
 line_with l
     (Some o) s = record l {
-      symbols = if has_syn s.flags then l.symbols else longer l.symbols
+      symbols = if has_syn s.flags then l.symbols else lengthen l.symbols
           (start_of o.own s)
           (symbols_in o.own s);
       acked = acked_after l.acked o.client s;

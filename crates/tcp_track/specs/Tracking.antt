@@ -135,9 +135,9 @@ trim_entry (Some e) entries t client to = put_entry entries t
     (record e { line = fields_trimmed e.line client to })
 
 -- what `trim` leaves
-unfoldable pub trimmed : Tracking → Tuple → ℕ → ℕ → Tracking
+unfoldable pub trim_tracking : Tracking → Tuple → ℕ → ℕ → Tracking
 unfolding fields_trimmed
-trimmed tracking t client to = record tracking {
+trim_tracking tracking t client to = record tracking {
   entries = trim_entry
       (entry_of tracking.entries t) tracking.entries t client to;
 }
@@ -154,5 +154,5 @@ abbrev pub commit_entry : Tuple × Entry → Tuple × Entry
 commit_entry x = (x.0, record x.1 { at_commit = x.1.line.opening })
 
 -- what `commit` leaves: no opening was made since
-abbrev pub committed : Tracking → Tracking
-committed tracking = record { entries = map commit_entry tracking.entries; since = [] }
+abbrev pub commit_tracking : Tracking → Tracking
+commit_tracking tracking = record { entries = map commit_entry tracking.entries; since = [] }

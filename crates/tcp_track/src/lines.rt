@@ -54,7 +54,7 @@ impl Model for Line {
 }
 
 impl Line {
-    ghost use Rattle.tcp_track.specs.LineFields.{no_fields, bytes_end, end_of, grows, grown, fields_acked, fields_opened, fields_refused, fields_reset, fields_with, fields_after, fields_trimmed, cut};
+    ghost use Rattle.tcp_track.specs.LineFields.{no_fields, bytes_end, end_of, grows, grow_fields, fields_acked, fields_opened, fields_refused, fields_reset, fields_with, fields_after, fields_trimmed, cut};
     ghost use Rattle.tcp_track.specs.Stands.{is_of_client};
 
     /// A line without an opening and without a refusal. It takes no memory.
@@ -185,7 +185,7 @@ impl Line {
         requires opened { self.old.opening ≡ Some opening }
         requires grows { grows self.old opening.own segment.now ≡ true }
         ensures ok { OnOk result (self.new
-            ≡ grown self.old (start_of opening.own segment.now) segment.now) }
+            ≡ grow_fields self.old (start_of opening.own segment.now) segment.now) }
         ensures err { OnErr result (self.new ≡ self.old) }
     {
         let known = (self.bytes_end() - distance(opening.own, segment.seq())) as usize;

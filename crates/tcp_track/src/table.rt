@@ -55,7 +55,7 @@ impl Model for Tracker {
 }
 
 impl Tracker {
-    ghost use Rattle.tcp_track.specs.Tracking.{nothing_tracked, line_at, entry_at, took_of, taken, tracking_after, what_in, is_known_client, trimmed, with_line, committed, took_in};
+    ghost use Rattle.tcp_track.specs.Tracking.{nothing_tracked, line_at, entry_at, took_of, taken, tracking_after, what_in, is_known_client, trim_tracking, with_line, commit_tracking, took_in};
 
     /// Nothing taken yet. It takes no memory.
     pub fn new(alloc: Global) -> Tracker
@@ -129,9 +129,9 @@ impl Tracker {
 
     /// Forgets the symbols of a tuple below `to`, but none past the line's end and never FIN, where
     /// the tuple's current opening is one of this client. It takes no memory.
-    #[tactic(auto, unfolding(crate::specs::Tracking::trimmed))]
+    #[tactic(auto, unfolding(crate::specs::Tracking::trim_tracking))]
     pub fn trim(&mut self, tuple: &Tuple, client: u32, to: Offset)
-        ensures { self.new ≡ trimmed self.old tuple.now client to }
+        ensures { self.new ≡ trim_tracking self.old tuple.now client to }
     {
         trim_entry(&mut self.table, tuple, client, to);
     }
@@ -163,7 +163,7 @@ impl Tracker {
 
     /// Begins a new restart record: the current openings. It takes no memory.
     pub fn commit(&mut self)
-        ensures { self.new ≡ committed self.old }
+        ensures { self.new ≡ commit_tracking self.old }
     {
         commit_entries(&mut self.table);
         self.since.clear();

@@ -6,7 +6,7 @@ use Rattle.inet_frame.specs.Counted.{tuple_of}
 use Rattle.inet_frame.specs.Fields.{TcpFields}
 use Rattle.inet_frame.specs.Flags.{has_fin, has_syn, has_rst, has_ack}
 use Rattle.inet_frame.specs.declared.tuple.Tuple.{Tuple}
-use Rattle.tcp_track.specs.Lines.{Item, sent, trim, commit, Line, no_line, has_ended, opened_line, refused_line, longer, line_with, after_segment, trim_end, after_trim, line_after, line}
+use Rattle.tcp_track.specs.Lines.{Item, sent, trim, commit, Line, no_line, has_ended, opened_line, refused_line, lengthen, line_with, after_segment, trim_end, after_trim, line_after, line}
 use Rattle.tcp_track.specs.Offsets.{distance}
 use Rattle.tcp_track.specs.Segments.{Symbol, same_tuple, syn, byte, fin, fin_if, syn_if, opening_in, opens_anew, is_refusal, symbols_in, payload_symbols, start_of, is_near}
 use Rattle.tcp_track.specs.Stands.{acked_after, is_of_client}
@@ -111,7 +111,7 @@ drop-nothing : (d : ℕ) → drop d (let xs : List Symbol = [] in xs) ≡ []
 drop-nothing zero = refl
 drop-nothing (suc d) = refl
 
-longer-nothing : (xs : List Symbol) (from : ℕ) → longer xs from [] ≡ xs
+longer-nothing : (xs : List Symbol) (from : ℕ) → lengthen xs from [] ≡ xs
 longer-nothing xs from = by (has_ended xs || nat_lt (length xs) from)
   where
     by : (b : Bool) → (if b then xs else xs ++ drop (length xs - from) []) ≡ xs
@@ -125,9 +125,9 @@ carried own s r y =
     λ i. if r i then [] else (if y i then syn_if (s.seq == own) else (if is_near own s then payload_symbols s else []))
 
 longer_grows : (xs : List Symbol) (own : ℕ) (s : TcpFields) → IsWhole xs → length xs < OFFSET_BOUND →
-    has_rst s.flags ≡ false → has_syn s.flags ≡ false → Grows xs (longer xs (start_of own s) (symbols_in own s))
+    has_rst s.flags ≡ false → has_syn s.flags ≡ false → Grows xs (lengthen xs (start_of own s) (symbols_in own s))
 longer_grows xs own s h short r y =
-    subst (λ (ys : List Symbol). Grows xs (longer xs (start_of own s) ys)) (sym (carried own s r y))
+    subst (λ (ys : List Symbol). Grows xs (lengthen xs (start_of own s) ys)) (sym (carried own s r y))
     (by_near (is_near own s) refl)
   where
     by_low : (b : Bool) → nat_lt (length xs) (start_of own s) ≡ b → is_near own s ≡ true → has_ended xs ≡ false →
@@ -142,7 +142,7 @@ longer_grows xs own s h short r y =
     by_ended false e near = by_low (nat_lt (length xs) (start_of own s)) refl near e
 
     by_near : (b : Bool) → is_near own s ≡ b →
-        Grows xs (longer xs (start_of own s) (if b then payload_symbols s else []))
+        Grows xs (lengthen xs (start_of own s) (if b then payload_symbols s else []))
     by_near true e = by_ended (has_ended xs) refl e
     by_near false e = subst (Grows xs) (sym (longer-nothing xs (start_of own s))) (stays xs h short)
 
@@ -215,7 +215,7 @@ with_sound l (Some o) s e r h =
     }
   where
     by : (b : Bool) → has_syn s.flags ≡ b → IsWhole l.symbols → Grows l.symbols
-        (if b then l.symbols else longer l.symbols (start_of o.own s) (symbols_in o.own s))
+        (if b then l.symbols else lengthen l.symbols (start_of o.own s) (symbols_in o.own s))
     by true y whole = stays l.symbols whole h.near
     by false y whole = longer_grows l.symbols o.own s whole h.near r y
 

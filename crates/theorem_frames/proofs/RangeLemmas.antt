@@ -12,7 +12,7 @@ use Rattle.inet_frame.specs.Options.{is_mss, mss_of, mss_value, option_len, opti
 use Rattle.inet_frame.specs.declared.tuple.Tuple.{Tuple}
 use Rattle.shared_definitions.specs.Bytes.{AreBytes}
 use Rattle.shared_definitions.proofs.ByteLemmas.{AreBytes-drop, AreBytes-take, AreBytes-zeros}
-use Rattle.tcp_track.specs.Lines.{Item, sent, trim, commit, Line, no_line, has_ended, opened_line, refused_line, longer, line_with, after_segment, trim_end, after_trim, line_after, line, order, order_after, sent_of}
+use Rattle.tcp_track.specs.Lines.{Item, sent, trim, commit, Line, no_line, has_ended, opened_line, refused_line, lengthen, line_with, after_segment, trim_end, after_trim, line_after, line, order, order_after, sent_of}
 use Rattle.tcp_track.specs.Segments.{Symbol, syn, byte, fin, fin_if, syn_if, same_tuple, opening_in, opens_anew, may_open, is_near, is_refusal, payload_symbols, start_of, symbols_in}
 use Rattle.tcp_track.specs.Stands.{is_of_client, opening_after, opening_of}
 use Rattle.tcp_track.specs.declared.openings.Opening.{Opening}
@@ -88,7 +88,7 @@ carried_fit own s h =
     (λ g. All-nil SymbolFits)))
 
 longer_fits : (xs : List Symbol) (from : ℕ) (new : List Symbol) → All SymbolFits xs → All SymbolFits new →
-    All SymbolFits (longer xs from new)
+    All SymbolFits (lengthen xs from new)
 longer_fits xs from new h g =
     cond_both (has_ended xs || nat_lt (length xs) from) xs (xs ++ drop (length xs - from) new) (All SymbolFits)
     (λ e. h)
@@ -146,7 +146,7 @@ with_in_range l (Some o) s h g = record {
   window = window_in_range l.window s h g.window;
   mss = g.mss;
   symbols =
-      cond_both (has_syn s.flags) l.symbols (longer l.symbols (start_of o.own s) (symbols_in o.own s))
+      cond_both (has_syn s.flags) l.symbols (lengthen l.symbols (start_of o.own s) (symbols_in o.own s))
       (All SymbolFits) (λ e. g.symbols)
       (λ e. longer_fits l.symbols (start_of o.own s) (symbols_in o.own s) g.symbols (carried_fit o.own s h));
 }

@@ -7,7 +7,7 @@ use Rattle.inet_frame.specs.Flags.{has_rst, has_syn}
 use Rattle.inet_frame.specs.declared.tuple.Tuple.{Tuple}
 use Rattle.tcp_track.specs.Laws.{took_after}
 use Rattle.tcp_track.specs.Lines as lines
-use Rattle.tcp_track.specs.Lines.{Item, after_segment, after_trim, commit, has_ended, line, line_after, line_with, longer, opened_line, refused_line, sent, trim, trim_end}
+use Rattle.tcp_track.specs.Lines.{Item, after_segment, after_trim, commit, has_ended, line, line_after, line_with, lengthen, opened_line, refused_line, sent, trim, trim_end}
 use Rattle.tcp_track.specs.Restarts.{is_restart}
 use Rattle.tcp_track.specs.Segments.{Symbol, is_refusal, opening_in, opens_anew, refused_in, same_tuple, start_of, symbols_in}
 use Rattle.tcp_track.specs.Stands.{is_of_client}
@@ -26,7 +26,7 @@ use Rattle.theorem_known.proofs.BothRight.{AllBelow, BelowStands, put_below}
 
 -- ONE SEGMENT leaves the symbols below the edge, or takes the edge to 0
 longer_keeps : (symbols : List Symbol) (from : ℕ) (new : List Symbol) (k : ℕ) → k < length symbols
-    → slice_get (longer symbols from new) k ≡ slice_get symbols k
+    → slice_get (lengthen symbols from new) k ≡ slice_get symbols k
 longer_keeps symbols from new k h =
     cond_both (has_ended symbols || nat_lt (length symbols) from) symbols
     (symbols ++ drop (length symbols - from) new) (λ (xs : List Symbol). slice_get xs k ≡ slice_get symbols k)
@@ -50,7 +50,7 @@ segment_below said t l p s known within h = by (is_refusal s) (has_rst s.flags) 
     keeps : (o : Opening) (k : ℕ) → k < length l.symbols
         → slice_get (line_with l (Some o) s).symbols k ≡ slice_get l.symbols k
     keeps o k low =
-        cond_both (has_syn s.flags) l.symbols (longer l.symbols (start_of o.own s) (symbols_in o.own s))
+        cond_both (has_syn s.flags) l.symbols (lengthen l.symbols (start_of o.own s) (symbols_in o.own s))
         (λ (xs : List Symbol). slice_get xs k ≡ slice_get l.symbols k) (λ e. refl)
         (λ e. longer_keeps l.symbols (start_of o.own s) (symbols_in o.own s) k low)
 

@@ -12,7 +12,7 @@ use Rattle.inet_frame.specs.Flags.{has_rst, has_syn}
 use Rattle.inet_frame.specs.declared.tuple.Tuple.{Tuple}
 use Rattle.tcp_track.specs.Laws.{took_after}
 use Rattle.tcp_track.specs.Lines as lines
-use Rattle.tcp_track.specs.Lines.{Item, after_segment, after_trim, commit, has_ended, line, line_after, line_with, longer, no_line, opened_line, order, order_after, refused_line, sent, sent_of, trim, trim_end}
+use Rattle.tcp_track.specs.Lines.{Item, after_segment, after_trim, commit, has_ended, line, line_after, line_with, lengthen, no_line, opened_line, order, order_after, refused_line, sent, sent_of, trim, trim_end}
 use Rattle.tcp_track.specs.Restarts.{is_restart}
 use Rattle.tcp_track.specs.Segments.{Symbol, is_refusal, may_open, opening_in, opens_anew, refused_in, same_symbol, same_tuple, start_of, symbols_in}
 use Rattle.tcp_track.specs.Stands.{is_of_client, opening_after, opening_of}
@@ -65,7 +65,8 @@ numbered_more t l p numbers more h =
     numbered_alike t l p numbers (numbers ++ more)
     (λ o e. found_alike t o.client numbers (numbers ++ more) (kept_more t o.client numbers more (h.kept o e))) h
 
-no_shorter : (symbols : List Symbol) (from : ℕ) (new : List Symbol) → length symbols ≤ length (longer symbols from new)
+no_shorter : (symbols : List Symbol) (from : ℕ) (new : List Symbol) →
+    length symbols ≤ length (lengthen symbols from new)
 no_shorter symbols from new =
     cond_both (has_ended symbols || nat_lt (length symbols) from) symbols
     (symbols ++ drop (length symbols - from) new) (λ (xs : List Symbol). length symbols ≤ length xs)
@@ -119,7 +120,7 @@ numbered_segment l p numbers s known h = by (is_refusal s) (has_rst s.flags) (op
         IsNumbered t (line_with l (Some o) s) (progress_with what p) all
     spans o e what same =
         let longer_is =
-        cond_both (has_syn s.flags) l.symbols (longer l.symbols (start_of o.own s) (symbols_in o.own s))
+        cond_both (has_syn s.flags) l.symbols (lengthen l.symbols (start_of o.own s) (symbols_in o.own s))
         (λ (xs : List Symbol). length l.symbols ≤ length xs) (λ f. omega arith)
         (λ f. no_shorter l.symbols (start_of o.own s) (symbols_in o.own s)) in
         subst (λ (q : Progress). IsNumbered t (line_with l (Some o) s) q all) (sym same) (record {

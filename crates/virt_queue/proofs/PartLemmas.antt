@@ -15,7 +15,7 @@ use Rattle.shared_definitions.proofs.RangeLemmas.{length-range}
 use Rattle.page_track.specs.Memory.{Memory, part_at, find_part, with_part}
 use Rattle.page_track.proofs.LendingLemmas.{inside, write_none}
 use Rattle.virt_queue.specs.declared.fields.Part.{Part}
-use Rattle.virt_queue.specs.Parts.{parts_inside, is_of_kind, of_kind, readable, writable, total_len, joined, skip, write_joined, DescriptorChain, find_writable}
+use Rattle.virt_queue.specs.Parts.{parts_inside, is_of_kind, of_kind, readable, writable, total_len, join_parts, skip, write_joined, DescriptorChain, find_writable}
 
 -- the parts from the k-th on
 pub rest_at : (parts : List Part) (k : ℕ) (p : Part) → slice_get parts k ≡ Some p →
@@ -224,8 +224,8 @@ write_all start parts from bytes k m s rest i h =
 -- a read of them
 
 joined_cons : (bytes : List ℕ) (p : Part) (parts : List Part) →
-    joined bytes (p ∷ parts) ≡ part_at bytes p.addr p.len ++ joined bytes parts
-unfolding joined
+    join_parts bytes (p ∷ parts) ≡ part_at bytes p.addr p.len ++ join_parts bytes parts
+unfolding join_parts
 joined_cons bytes p parts = refl
 
 -- the first n bytes after s bytes of a list and another
@@ -263,8 +263,8 @@ part_within bytes address n s count h lt le =
 
 pub record Reading (bytes : List ℕ) (parts : List Part) (from : ℕ) (before : List ℕ) (k s filled : ℕ) (into : List ℕ) :
     Type 0 where
-  pub got : take filled into ++ take (length before - filled) (drop s (joined bytes (readable (drop k parts))))
-      ≡ take (length before) (drop from (joined bytes (readable parts)))
+  pub got : take filled into ++ take (length before - filled) (drop s (join_parts bytes (readable (drop k parts))))
+      ≡ take (length before) (drop from (join_parts bytes (readable parts)))
   pub rest : drop filled into ≡ drop filled before
   pub len : length into ≡ length before
   pub within : filled ≤ length before
@@ -272,7 +272,7 @@ pub record Reading (bytes : List ℕ) (parts : List Part) (from : ℕ) (before :
 pub read_begins : (bytes : List ℕ) (parts : List Part) (from : ℕ) (before : List ℕ) →
     Reading bytes parts from before 0 from 0 before
 read_begins bytes parts from before = let whole : length before - 0 ≡ length before = omega arith in record {
-  got = ap (λ (n : ℕ). take n (drop from (joined bytes (readable parts)))) whole;
+  got = ap (λ (n : ℕ). take n (drop from (join_parts bytes (readable parts)))) whole;
   rest = refl;
   len = refl;
   within = omega arith;
@@ -283,7 +283,7 @@ pub read_other : (bytes : List ℕ) (parts : List Part) (from : ℕ) (before : L
     Reading bytes parts from before k s filled into → slice_get parts k ≡ Some p → p.writable ≡ true →
     Reading bytes parts from before (k + 1) s filled into
 read_other bytes parts from before k s filled into p i h w = record {
-  got = sym (ap (λ (ps : List Part). take filled into ++ take (length before - filled) (drop s (joined bytes ps)))
+  got = sym (ap (λ (ps : List Part). take filled into ++ take (length before - filled) (drop s (join_parts bytes ps)))
       (of_kind_without false parts k p h (rw w refl))) ∙ i.got;
   rest = i.rest;
   len = i.len;
@@ -300,11 +300,11 @@ read_past bytes parts from before k s filled into p all i h w le =
     let here = part_at bytes p.addr p.len in
     let len = length-part_at bytes p.addr p.len (part_inside (length bytes) parts k p all h) in
     let place : s ≡ length here + (s - p.len) = omega arith in
-    let past : drop s (joined bytes (readable (drop k parts))) ≡ drop (s - p.len) (joined bytes later) =
-    ap (λ (ps : List Part). drop s (joined bytes ps)) (of_kind_with false parts k p h (rw w refl))
+    let past : drop s (join_parts bytes (readable (drop k parts))) ≡ drop (s - p.len) (join_parts bytes later) =
+    ap (λ (ps : List Part). drop s (join_parts bytes ps)) (of_kind_with false parts k p h (rw w refl))
     ∙ (ap (drop s) (joined_cons bytes p later)
-    ∙ (ap (λ (j : ℕ). drop j (here ++ joined bytes later)) place
-    ∙ drop-append-add here (joined bytes later) (s - p.len))) in
+    ∙ (ap (λ (j : ℕ). drop j (here ++ join_parts bytes later)) place
+    ∙ drop-append-add here (join_parts bytes later) (s - p.len))) in
     record {
       got = sym (ap (λ (x : List ℕ). take filled into ++ take (length before - filled) x) past) ∙ i.got;
       rest = i.rest;
@@ -351,22 +351,22 @@ read_here bytes parts from before k s filled into p count part next all i h w lt
     let left = length before - filled in
     let a = drop s here in
     let a_len : length a ≡ p.len - s = omega (arith, length-drop s here) in
-    let more : take left (drop s (joined bytes (readable (drop k parts)))) ≡ part ++ take (left - count) (joined bytes
-    later) =
-    ap (λ (ps : List Part). take left (drop s (joined bytes ps))) (of_kind_with false parts k p h (rw w refl))
+    let more : take left (drop s (join_parts bytes (readable (drop k parts))))
+    ≡ part ++ take (left - count) (join_parts bytes later) =
+    ap (λ (ps : List Part). take left (drop s (join_parts bytes ps))) (of_kind_with false parts k p h (rw w refl))
     ∙ (ap (λ (x : List ℕ). take left (drop s x)) (joined_cons bytes p later)
-    ∙ (ap (take left) (drop-append-le s here (joined bytes later) (omega arith))
-    ∙ (take_both a (joined bytes later) left count (omega (arith, e, i.len))
-    ∙ ap (λ (x : List ℕ). x ++ take (left - count) (joined bytes later))
+    ∙ (ap (take left) (drop-append-le s here (join_parts bytes later) (omega arith))
+    ∙ (take_both a (join_parts bytes later) left count (omega (arith, e, i.len))
+    ∙ ap (λ (x : List ℕ). x ++ take (left - count) (join_parts bytes later))
     (part_within bytes p.addr p.len s count inside_p lt (omega (arith, e)) ∙ sym is)))) in
     let rest_len : length before - (filled + count) ≡ left - count = omega arith in
     record {
-      got = ap (λ (x : List ℕ). take (filled + count) x ++ take (length before - (filled + count)) (joined bytes
+      got = ap (λ (x : List ℕ). take (filled + count) x ++ take (length before - (filled + count)) (join_parts bytes
           later)) after
-          ∙ (ap (λ (x : List ℕ). x ++ take (length before - (filled + count)) (joined bytes later)) (copied into part
-          filled count room short)
-          ∙ (ap (λ (j : ℕ). (take filled into ++ part) ++ take j (joined bytes later)) rest_len
-          ∙ (append_assoc (take filled into) part (take (left - count) (joined bytes later))
+          ∙ (ap (λ (x : List ℕ). x ++ take (length before - (filled + count)) (join_parts bytes later))
+          (copied into part filled count room short)
+          ∙ (ap (λ (j : ℕ). (take filled into ++ part) ++ take j (join_parts bytes later)) rest_len
+          ∙ (append_assoc (take filled into) part (take (left - count) (join_parts bytes later))
           ∙ (ap (λ (x : List ℕ). take filled into ++ x) (sym more) ∙ i.got))));
       rest = ap (drop (filled + count)) after ∙ (copied_rest into part filled count room short
           ∙ (sym (drop-drop count filled into) ∙ (ap (drop count) i.rest ∙ drop-drop count filled before)));
@@ -385,29 +385,29 @@ read_here bytes parts from before k s filled into p count part next all i h w lt
 
 pub read_all : (bytes : List ℕ) (parts : List Part) (from : ℕ) (before : List ℕ) (k s filled : ℕ) (into : List ℕ) →
     Reading bytes parts from before k s filled into → length parts ≤ k →
-    take filled into ≡ take (length before) (drop from (joined bytes (readable parts)))
-unfolding joined
+    take filled into ≡ take (length before) (drop from (join_parts bytes (readable parts)))
+unfolding join_parts
 read_all bytes parts from before k s filled into i h =
-    let none : take (length before - filled) (drop s (joined bytes (readable (drop k parts)))) ≡ [] =
-    ap (λ (ps : List Part). take (length before - filled) (drop s (joined bytes ps))) (of_kind_end false parts k h)
+    let none : take (length before - filled) (drop s (join_parts bytes (readable (drop k parts)))) ≡ [] =
+    ap (λ (ps : List Part). take (length before - filled) (drop s (join_parts bytes ps))) (of_kind_end false parts k h)
     ∙ (ap (take (length before - filled)) (drop_all s [] (omega arith))
     ∙ take_all (length before - filled) [] (omega arith)) in
     sym (append-nil (take filled into)) ∙ (ap (λ (x : List ℕ). take filled into ++ x) (sym none) ∙ i.got)
 
 pub read_count : (bytes : List ℕ) (parts : List Part) (from : ℕ) (before : List ℕ) (k s filled : ℕ) (into : List ℕ) →
     Reading bytes parts from before k s filled into → length parts ≤ k →
-    filled ≡ length (take (length before) (drop from (joined bytes (readable parts))))
+    filled ≡ length (take (length before) (drop from (join_parts bytes (readable parts))))
 read_count bytes parts from before k s filled into i h =
     let all = ap length (read_all bytes parts from before k s filled into i h) in
     omega (arith, length-take filled into, i.len, i.within)
 
 pub read_whole : (bytes : List ℕ) (parts : List Part) (from : ℕ) (before : List ℕ) (k s filled : ℕ) (into : List ℕ) →
     Reading bytes parts from before k s filled into → length parts ≤ k →
-    into ≡ take (length before) (drop from (joined bytes (readable parts))) ++ drop filled before
+    into ≡ take (length before) (drop from (join_parts bytes (readable parts))) ++ drop filled before
 read_whole bytes parts from before k s filled into i h =
     sym (take-append-drop filled into)
     ∙ (ap (λ (x : List ℕ). x ++ drop filled into) (read_all bytes parts from before k s filled into i h)
-    ∙ ap (λ (x : List ℕ). take (length before) (drop from (joined bytes (readable parts))) ++ x) i.rest)
+    ∙ ap (λ (x : List ℕ). take (length before) (drop from (join_parts bytes (readable parts))) ++ x) i.rest)
 
 -- the part of memory that a read takes
 pub found : (bytes : List ℕ) (address n : ℕ) (o : Option (List ℕ)) → o ≡ find_part bytes address n →

@@ -49,9 +49,9 @@ abbrev pub total_len : List Part → ℕ
 total_len parts = sum_by (λ (p : Part). p.len) parts
 
 -- the bytes of parts, joined
-unfoldable pub joined : List ℕ → List Part → List ℕ
-joined bytes [] = []
-joined bytes (p ∷ parts) = part_at bytes p.addr p.len ++ joined bytes parts
+unfoldable pub join_parts : List ℕ → List Part → List ℕ
+join_parts bytes [] = []
+join_parts bytes (p ∷ parts) = part_at bytes p.addr p.len ++ join_parts bytes parts
 
 -- parts without their first n bytes
 unfoldable pub skip : ℕ → List Part → List Part

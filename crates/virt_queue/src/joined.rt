@@ -1,7 +1,7 @@
 //! The bytes of a chain's parts, joined.
 
 ghost use Rattle.std.specs.Prelude.{◌≡◌, ◌++◌, length, take, drop, IsTrue};
-ghost use Rattle.virt_queue.specs.Parts.{parts_inside, of_kind, readable, writable, total_len, joined, skip, write_joined};
+ghost use Rattle.virt_queue.specs.Parts.{parts_inside, of_kind, readable, writable, total_len, join_parts, skip, write_joined};
 
 use crate::chain::Chain;
 use page_track::Ram;
@@ -42,9 +42,9 @@ impl Chain {
     /// It asks that all parts are in memory, as those of a chain that was taken from it are.
     pub fn read(&self, ram: &Ram, from: u64, into: &mut [u8]) -> usize
         requires { IsTrue (parts_inside (length ram.now.bytes) self.now.parts) }
-        ensures count { let bytes = joined ram.now.bytes (readable self.now.parts) in
+        ensures count { let bytes = join_parts ram.now.bytes (readable self.now.parts) in
             result ≡ length (take (length into.old) (drop from bytes)) }
-        ensures bytes { let bytes = joined ram.now.bytes (readable self.now.parts) in
+        ensures bytes { let bytes = join_parts ram.now.bytes (readable self.now.parts) in
             into.new ≡ take (length into.old) (drop from bytes) ++ drop result into.old }
     {
         let _size = ram.size();

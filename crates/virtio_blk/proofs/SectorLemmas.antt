@@ -13,7 +13,7 @@ use Rattle.page_track.specs.Memory.{Memory, part_at, with_part}
 use Rattle.page_track.proofs.MemoryLemmas.{length-with_part}
 use Rattle.page_track.proofs.LendingLemmas.{write_none}
 use Rattle.virt_queue.specs.declared.fields.Part.{Part}
-use Rattle.virt_queue.specs.Parts.{parts_inside, is_of_kind, of_kind, writable, readable, total_len, joined, skip, write_joined}
+use Rattle.virt_queue.specs.Parts.{parts_inside, is_of_kind, of_kind, writable, readable, total_len, join_parts, skip, write_joined}
 use Rattle.virtio_blk.specs.Disk.{DiskState, with_sector}
 use Rattle.virtio_blk.specs.Request.{read_sectors, write_sectors}
 use Rattle.virt_queue.proofs.PartLemmas.{ends_inside, inside_within, length-part_at, skip_past, skip_into}
@@ -201,14 +201,14 @@ read_more start now later disk parts sector k bytes so inside room there long af
 -- ---- sectors written from the request
 
 length-joined : (bytes : List ℕ) (parts : List Part) → parts_inside (length bytes) parts ≡ true
-    → length (joined bytes parts) ≡ total_len parts
-unfolding joined
+    → length (join_parts bytes parts) ≡ total_len parts
+unfolding join_parts
 length-joined bytes [] all = refl
 length-joined bytes (p ∷ parts) all =
     let both = and_parts (is_inside (length bytes) p.addr p.len) (parts_inside (length bytes) parts) all in
     omega (
       arith,
-      length-append (part_at bytes p.addr p.len) (joined bytes parts),
+      length-append (part_at bytes p.addr p.len) (join_parts bytes parts),
       length-part_at bytes p.addr p.len both.0,
       length-joined bytes parts both.1,
       sum_by-cons (λ (q : Part). q.len) p parts,
@@ -216,7 +216,7 @@ length-joined bytes (p ∷ parts) all =
 
 -- the readable bytes are as many as the readable parts have
 pub length-request : (bytes : List ℕ) (parts : List Part) → parts_inside (length bytes) parts ≡ true
-    → length (joined bytes (readable parts)) ≡ total_len (readable parts)
+    → length (join_parts bytes (readable parts)) ≡ total_len (readable parts)
 length-request bytes parts inside =
     length-joined bytes (readable parts) (inside_of_kind (length bytes) false parts inside)
 

@@ -3,7 +3,7 @@
 use Rattle.std.specs.Prelude.{ℕ, zero, suc, ◌+◌, ◌-◌, ◌*◌, ◌/◌, ◌%◌, ◌^◌, ◌==◌, nat_le, Bool, ◌&&◌, if◌then◌else◌, List, [], ◌∷◌, ◌++◌, length, take, drop, get_or}
 use Rattle.shared_definitions.specs.Memory.{little_endian}
 use Rattle.page_track.specs.Memory.{Memory}
-use Rattle.virt_queue.specs.Parts.{DescriptorChain, readable, writable, total_len, joined, skip, write_joined}
+use Rattle.virt_queue.specs.Parts.{DescriptorChain, readable, writable, total_len, join_parts, skip, write_joined}
 use Rattle.virtio_blk.specs.Disk.{DiskState, with_sector}
 
 -- ---- the header of 16 bytes
@@ -71,7 +71,7 @@ pub record Done : Type 0 where
 
 -- the bytes of a chain that the device reads, how many they are, and how many it writes
 abbrev pub request_bytes : Memory → DescriptorChain → List ℕ
-request_bytes memory chain = joined memory.bytes (readable chain.parts)
+request_bytes memory chain = join_parts memory.bytes (readable chain.parts)
 
 abbrev pub request_len : DescriptorChain → ℕ
 request_len chain = total_len (readable chain.parts)

@@ -3,7 +3,7 @@
 ghost use Rattle.std.specs.Prelude.{◌≡◌, ◌<◌, ◌≤◌, ◌+◌, ◌*◌, ◌/◌, ◌%◌, ◌^◌, ℕ, drop, length, true, IsTrue};
 ghost use Rattle.shared_definitions.specs.Memory.{little_endian};
 ghost use Rattle.page_track.specs.Memory.{Memory};
-ghost use Rattle.virt_queue.specs.Parts.{parts_inside, joined, readable, writable, skip, total_len, write_joined};
+ghost use Rattle.virt_queue.specs.Parts.{parts_inside, join_parts, readable, writable, skip, total_len, write_joined};
 ghost use Rattle.virtio_blk.specs.Request.{request_bytes, request_len, answer_len, type_of, sector_of, are_sectors, read_sectors, write_sectors, with_status, status_count, serve_in, serve_out, serve_request};
 
 use crate::disk::Disk;

@@ -4,7 +4,7 @@
 use Rattle.std.specs.Prelude.{◌≡◌, ℕ, nat_eq, nat_le, Bool, not, ◌&&◌, if◌then◌else◌, zero, suc, Option, None, Some, Result, Ok, Err, List, [], ◌∷◌, ◌++◌, length, drop, replicate}
 use Rattle.std.specs.Cmp.Lexicographic.{pointwise}
 use Rattle.virt_queue.specs.declared.fields.RingFault.{RingFault}
-use Rattle.virt_queue.specs.Parts.{DescriptorChain, readable, joined}
+use Rattle.virt_queue.specs.Parts.{DescriptorChain, readable, join_parts}
 use Rattle.inet_frame.specs.Arp.{reply_bytes}
 use Rattle.inet_frame.specs.Fields.{ArpFields}
 use Rattle.inet_frame.specs.Frame.{is_arp, seen_of}
@@ -20,7 +20,7 @@ use Rattle.virtio_net.specs.Receive.{Delivery, header, can_receive, deliver}
 
 -- the readable bytes of a chain without the header
 abbrev pub payload : List ℕ → DescriptorChain → List ℕ
-payload bytes chain = drop (length header) (joined bytes (readable chain.parts))
+payload bytes chain = drop (length header) (join_parts bytes (readable chain.parts))
 
 -- whether bytes are a frame: an Ethernet header, and at most 1,500 bytes after it (IEEE 802.3,
 -- 3.2.7)
@@ -127,7 +127,3 @@ send port =
 abbrev pub fault_of : Option RingFault → Result (Unit {0}) RingFault
 fault_of None = Ok tt
 fault_of (Some fault) = Err fault
-
--- frames begin with those that were there
-abbrev pub Begins : List (List ℕ) → List (List ℕ) → Type 0
-Begins old new = (more : List (List ℕ)) × (new ≡ old ++ more)

@@ -6,7 +6,8 @@ ghost use Rattle.virt_queue.specs.Parts.{parts_inside};
 ghost use Rattle.virtio_net.specs.Notify.{NotifySends};
 ghost use Rattle.virtio_mmio.specs.Registers.{serves};
 ghost use Rattle.virtio_net.specs.Port.{Port, port_of, send_queue};
-ghost use Rattle.virtio_net.specs.Send.{frame_in, output, request_in, answer_request, send_chain, send, fault_of, is_known, Begins};
+ghost use Rattle.virtio_net.specs.Send.{frame_in, output, request_in, answer_request, send_chain, send, fault_of, is_known};
+ghost use Rattle.shared_definitions.specs.Begins.{Begins};
 
 use crate::net::Net;
 use colo_base::{Frames, NoMemory};

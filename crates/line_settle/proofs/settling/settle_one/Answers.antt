@@ -4,7 +4,7 @@ use Rattle.line_release.specs.Both.{both_of}
 use Rattle.settle_rules.specs.Progress.{Progress}
 use Rattle.settle_rules.specs.Release.{released_frame}
 use Rattle.settle_rules.specs.Settle.{Settled}
-use Rattle.line_settle.specs.Parts.{aged, plain_out, settled_progress}
+use Rattle.line_settle.specs.Parts.{grow_if_turn, plain_out, settled_progress}
 use Rattle.line_settle.proofs.PartLemmas.{settle_one_is}
 use Rattle.line_settle.proofs.settling.settle_one.Goals as goal
 
@@ -14,8 +14,8 @@ returns-then-is_turn-clause-progress c =
     let p = c.args.progress.now in
     let tooks = c.args.tooks.now in
     c.grow_older.ensures
-    ∙ (ap (λ (q : Progress). aged b true q) c.in_ok-release_by_rules.ensures.progress
-    ∙ (sym (ap (λ (t : Bool). aged b t (settled_progress b p (plain_out b p tooks))) c.if-is_turn.true)
+    ∙ (ap (λ (q : Progress). grow_if_turn b true q) c.in_ok-release_by_rules.ensures.progress
+    ∙ (sym (ap (λ (t : Bool). grow_if_turn b t (settled_progress b p (plain_out b p tooks))) c.if-is_turn.true)
     ∙ sym (ap (λ (s : Settled). s.progress) (settle_one_is b p c.args.is_turn tooks))))
 
 pub returns-then-is_turn-clause-out : goal.returns-then-is_turn-clause-out
@@ -30,7 +30,7 @@ returns-else-is_turn-clause-progress c =
     let p = c.args.progress.now in
     let tooks = c.args.tooks.now in
     c.in_ok-release_by_rules.ensures.progress
-    ∙ (sym (ap (λ (t : Bool). aged b t (settled_progress b p (plain_out b p tooks))) c.if-is_turn.false)
+    ∙ (sym (ap (λ (t : Bool). grow_if_turn b t (settled_progress b p (plain_out b p tooks))) c.if-is_turn.false)
     ∙ sym (ap (λ (s : Settled). s.progress) (settle_one_is b p c.args.is_turn tooks)))
 
 pub returns-else-is_turn-clause-out : goal.returns-else-is_turn-clause-out
