@@ -1,5 +1,5 @@
 -- The options that follow the other words of a command.
-use Rattle.std.specs.Prelude.{ℕ, Bool, true, false, List, [], ◌∷◌, Option, Some, None, option_and_then, option_map, codes, if◌then◌else◌, ◌&&◌, ◌||◌}
+use Rattle.std.specs.Prelude.{ℕ, ◌≤◌, Bool, true, false, List, [], ◌∷◌, Option, Some, None, option_and_then, option_map, codes, if◌then◌else◌, ◌&&◌, ◌||◌}
 use Rattle.std.specs.List.{list_any}
 use Rattle.std.specs.Str.{bytes_eq}
 use Rattle.colo_words.specs.Words.{read_number}
@@ -25,6 +25,18 @@ row_of Rounds = row (codes "--rounds") 1 4294967295 1000000
 row_of Every = row (codes "--every") 0 4294967295 0
 row_of Steps = row (codes "--steps") 1 100000 20000
 row_of Stop = row (codes "--stop") 0 4294967295 0
+
+-- a number that the option may have
+abbrev pub IsInRow : Row → ℕ → Type 0
+IsInRow r n = (r.least ≤ n) × (n ≤ r.most)
+
+-- each option has such a number
+pub record AreInRange (o : Options) : Type 0 where
+  pub ram : IsInRow (row_of Ram) o.ram
+  pub rounds : IsInRow (row_of Rounds) o.rounds
+  pub every : IsInRow (row_of Every) o.every
+  pub steps : IsInRow (row_of Steps) o.steps
+  pub stop : IsInRow (row_of Stop) o.stop
 
 -- ---- words that are options
 

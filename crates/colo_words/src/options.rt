@@ -3,7 +3,7 @@
 ghost use Rattle.std.specs.Prelude.{◌≡◌, ◌≤◌, IfSome};
 ghost use Rattle.std.specs.List.{list_any};
 ghost use Rattle.std.specs.Str.{bytes_eq};
-ghost use Rattle.colo_words.specs.Options.{are_options, is_given, read_each, read_last, read_one, read_options, row_of};
+ghost use Rattle.colo_words.specs.Options.{AreInRange, IsInRow, are_options, is_given, read_each, read_last, read_one, read_options, row_of};
 ghost use Rattle.colo_words.specs.Words.{read_number, texts};
 
 use crate::numbers::read_number;
@@ -79,7 +79,8 @@ impl Opt {
     /// Its number where it is absent.
     #[tactic(auto, unfolding(crate::specs::Options::row_of))]
     fn absent(self) -> u32
-        ensures { result ≡ (row_of self).absent }
+        ensures value { result ≡ (row_of self).absent }
+        ensures range { IsInRow (row_of self) result }
     {
         match self {
             Opt::Ram => 16,
@@ -91,7 +92,8 @@ impl Opt {
 
     /// The number that a word spells for it.
     fn number(self, word: &str) -> Option<u32>
-        ensures { result ≡ read_number (row_of self).least (row_of self).most word.now }
+        ensures value { result ≡ read_number (row_of self).least (row_of self).most word.now }
+        ensures range { IfSome result (IsInRow (row_of self)) }
     {
         match read_number(word, u64::from(self.least()), u64::from(self.most())) {
             Some(number) => Some(number as u32),
@@ -138,7 +140,8 @@ fn is_given(words: &[String], word: &str) -> bool
 
 /// The number that a word spells for an option, where the rest of the words doesn't give it again.
 fn read_last(number: &str, rest: &[String], opt: Opt) -> Option<u32>
-    ensures { result ≡ read_last (row_of opt) number.now (texts rest.now) }
+    ensures value { result ≡ read_last (row_of opt) number.now (texts rest.now) }
+    ensures range { IfSome result (IsInRow (row_of opt)) }
 {
     if is_given(rest, opt.word()) {
         return None;
@@ -148,7 +151,8 @@ fn read_last(number: &str, rest: &[String], opt: Opt) -> Option<u32>
 
 /// The number of an option, which is given at most once.
 fn read_one(words: &[String], opt: Opt) -> Option<u32>
-    ensures { result ≡ read_one (row_of opt) (texts words.now) }
+    ensures value { result ≡ read_one (row_of opt) (texts words.now) }
+    ensures range { IfSome result (IsInRow (row_of opt)) }
 {
     match words {
         [] => Some(opt.absent()),
@@ -165,7 +169,8 @@ fn read_one(words: &[String], opt: Opt) -> Option<u32>
 
 /// The numbers of all options.
 fn read_each(words: &[String]) -> Option<Options>
-    ensures { result ≡ read_each (texts words.now) }
+    ensures value { result ≡ read_each (texts words.now) }
+    ensures range { IfSome result AreInRange }
 {
     Some(Options {
         ram: read_one(words, Opt::Ram)?,
@@ -180,7 +185,8 @@ fn read_each(words: &[String]) -> Option<Options>
 /// each at most once, in any order. An option that is absent has its own number. `None` exactly
 /// where the words aren't such pairs.
 pub fn read_options(words: &[String], allowed: &[Opt]) -> Option<Options>
-    ensures { result ≡ read_options allowed.now (texts words.now) }
+    ensures value { result ≡ read_options allowed.now (texts words.now) }
+    ensures range { IfSome result AreInRange }
 {
     if are_options(words, allowed) {
         read_each(words)

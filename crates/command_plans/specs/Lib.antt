@@ -6,3 +6,4 @@ pub mod Planning
 pub mod Splice
 pub mod Solo
 pub mod SoloEnds
+pub mod ReplayPlan

@@ -3,11 +3,13 @@
 
 mod image;
 mod one_file;
+mod pairs;
 mod replay;
 mod solo;
 mod splice;
 
 pub use image::write_image;
+pub use pairs::run_replay;
 pub use replay::{
     Counts, REPLAY_FILES, count_step, run_line, run_pair, stream, summary, write_state,
 };

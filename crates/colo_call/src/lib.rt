@@ -1,0 +1,6 @@
+//! The top call: from the words of a command line to its status.
+#![tactic(auto)]
+
+mod top;
+
+pub use top::colo;
