@@ -1,16 +1,1 @@
-pub mod SinkLemmas
-pub mod TestLemmas
-pub mod ClientLemmas
-pub mod SameLemmas
-pub mod BootLemmas
-pub mod CommandLemmas
-pub mod LoadLemmas
-pub mod LimitLemmas
-pub mod PartLemmas
-pub mod FileLemmas
-pub mod WritingLemmas
-pub mod OrderLemmas
-pub mod ReplayLemmas
-pub mod EndLemmas
-pub mod StopLemmas
-pub mod SoloLemmas
+mod TopLemmas

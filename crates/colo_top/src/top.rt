@@ -1,20 +1,16 @@
 //! The top call.
 
-ghost use Rattle.std.specs.Prelude.{◌≡◌, ◌⊎◌, IfOk, IfErr, string_bytes};
-ghost use Rattle.colo_base.specs.Count.{Increased};
-ghost use Rattle.colo_base.specs.Sink.{SinkGoesOn, Puts, PutsPart};
-ghost use Rattle.colo_top.specs.Outcome.{Fails, Succeeds};
-ghost use Rattle.colo_top.specs.Status.{line, status};
-ghost use Rattle.colo_top.specs.Top.{Ends, IsOnline, Prints};
-ghost use Rattle.colo_top.specs.Words.{texts};
+ghost use Rattle.std.specs.Prelude.{◌≡◌};
+ghost use Rattle.colo_base.specs.Clock.{ClockState};
+ghost use Rattle.colo_base.specs.Link.{LinkState};
+ghost use Rattle.colo_words.specs.Words.{texts};
+ghost use Rattle.command_tasks.specs.Tasks.{read_task};
+ghost use Rattle.file_steps.specs.Ending.{Ends, HasEnded};
+ghost use Rattle.file_steps.specs.Steps.{outside};
 
-use crate::fault::Fault;
-use crate::run::replay;
-use crate::solo::solo;
-use crate::splice::splice;
-use crate::words::{Command, read_words};
-use crate::write_image::write_image;
 use colo_base::{Clock, Link, Shelf, Sink};
+use command_tasks::{carry_out, read_words};
+use file_steps::{Fault, end_call};
 use std::alloc::Global;
 
 /// The top call: carries out the command that the words spell, and gives the status to end with.
@@ -47,8 +43,7 @@ use std::alloc::Global;
 ///
 /// The tests stand in the order 1, 6, 2, 3, 5, 4. Before the files are created nothing changes.
 /// A turn of `solo` without its frame comes afterwards, and leaves them empty.
-/// A put that fails is the last. Only a command that is online uses the link and the clock, and
-/// there is none yet.
+/// A put that fails is the last. No command uses the link or the clock yet.
 pub fn colo<S: Shelf, L: Link, K: Clock, O: Sink>(
     alloc: Global,
     words: &[String],
@@ -58,65 +53,27 @@ pub fn colo<S: Shelf, L: Link, K: Clock, O: Sink>(
     out: &mut O,
 ) -> u8
     ensures ends { Ends (record {
-      words = texts words.now;
-      before = record {
-        shelf = S.state shelf.old;
-        link = L.state link.old;
-        clock = K.state clock.old;
-        sink = O.state out.old;
-      };
-      after = record {
-        shelf = S.state shelf.new;
-        link = L.state link.new;
-        clock = K.state clock.new;
-        sink = O.state out.new;
-      };
+      task = read_task (texts words.now);
+      before = outside (S.state shelf.old) (L.state link.old) (K.state clock.old);
+      after = outside (S.state shelf.new) (L.state link.new) (K.state clock.new);
+      sink_before = O.state out.old;
+      sink_after = O.state out.new;
       status = result;
     }) }
-    ensures link { IsOnline (texts words.now) ⊎ (link.new ≡ link.old) }
-    ensures clock { IsOnline (texts words.now) ⊎ (clock.new ≡ clock.old) }
+    ensures link { link.new ≡ link.old }
+    ensures clock { clock.new ≡ clock.old }
 {
-    match run_command(alloc, words, shelf) {
-        Ok(line) => put_line(out, line.as_bytes()),
-        Err(fault) => put_fault(out, fault),
-    }
+    let work = carry_words(alloc, words, shelf);
+    end_call(out, work)
 }
 
-/// Carries out the command that the words spell. Gives the line to print.
-fn run_command<S: Shelf>(alloc: Global, words: &[String], shelf: &mut S) -> Result<String, Fault>
-    ensures done { IfOk result (λ line. Succeeds (texts words.now) (S.state shelf.old)
-        (S.state shelf.new) (string_bytes line)) }
-    ensures fails { IfErr result (Fails (texts words.now) (S.state shelf.old) (S.state shelf.new)) }
+/// Carries out the task that the words name. Gives the line to print.
+fn carry_words<S: Shelf>(alloc: Global, words: &[String], shelf: &mut S) -> Result<String, Fault>
+    ensures { (l : LinkState) (k : ClockState) → HasEnded (read_task (texts words.now))
+        (outside (S.state shelf.old) l k) (outside (S.state shelf.new) l k) result }
 {
     match read_words(words) {
         None => Err(Fault::Usage),
-        Some(Command::Replay(words)) => replay(alloc, shelf, &words),
-        Some(Command::Solo(words)) => solo(alloc, shelf, &words),
-        Some(Command::Splice(words)) => splice(alloc, shelf, &words),
-        Some(Command::WriteImage(words)) => write_image(alloc, shelf, &words),
+        Some(command) => carry_out(alloc, shelf, &command),
     }
-}
-
-/// Puts the line of work that is done.
-fn put_line<O: Sink>(out: &mut O, line: &[u8]) -> u8
-    ensures either { ((result ≡ 0) × Puts (O.state out.old) (O.state out.new) line.now
-        × ((O.state out.new).faults ≡ (O.state out.old).faults))
-        ⊎ ((result ≡ 7) × PutsPart (O.state out.old) (O.state out.new) line.now
-        × Increased (O.state out.old).faults (O.state out.new).faults) }
-    ensures goes_on { SinkGoesOn (O.state out.old) (O.state out.new) }
-{
-    match out.put(line) {
-        Ok(()) => 0,
-        Err(_) => Fault::Write.status(),
-    }
-}
-
-/// Puts the line of a fault. Its status stays where that fails.
-fn put_fault<O: Sink>(out: &mut O, fault: Fault) -> u8
-    ensures status { result ≡ status fault }
-    ensures line { Prints (O.state out.old) (O.state out.new) (line fault) }
-    ensures goes_on { SinkGoesOn (O.state out.old) (O.state out.new) }
-{
-    let _ = fault.put(out);
-    fault.status()
 }

@@ -1,8 +1,8 @@
 -- The words name no task, or the one that was carried out.
 use Rattle.colo_words.specs.Words.{texts}
 use Rattle.command_tasks.specs.Held.{command_of}
-use Rattle.colo_call.proofs.TopLemmas.{no_task_ends, task_ends}
-use Rattle.colo_call.proofs.top.carry_words.Goals as goal
+use Rattle.colo_top.proofs.TopLemmas.{no_task_ends, task_ends}
+use Rattle.colo_top.proofs.top.carry_words.Goals as goal
 
 pub returns-in-None : goal.returns-in-None
 returns-in-None g c = λ l k.

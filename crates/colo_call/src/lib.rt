@@ -1,6 +1,0 @@
-//! The top call: from the words of a command line to its status.
-#![tactic(auto)]
-
-mod top;
-
-pub use top::colo;
