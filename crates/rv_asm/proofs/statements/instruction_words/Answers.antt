@@ -10,7 +10,7 @@ pub word_of-requires : goal.word_of-requires
 word_of-requires c =
     let places = words_in c.args.context.now.labels.now in
     let rest = option_copied c.args.rest in
-    read_in_range places c.args.context.now.here _ (row_is c.in-Some.name.mnemonic.syntax).0 rest c.blank.result
+    read_in_range places c.args.context.now.here _ (row_is c.in-Some.name.mnemonic.syntax).0 rest c.no_operands.result
     c.in_ok-values-in-Some.values
-    (ap (λ (ks : List Kind). operands places c.args.context.now.here ks rest c.blank.result)
+    (ap (λ (ks : List Kind). operands places c.args.context.now.here ks rest c.no_operands.result)
     (sym c.kinds_of-kinds.ensures) ∙ sym c.in_ok-values-in-Some.ensures)
