@@ -1,0 +1,4 @@
+pub mod ClientLemmas
+pub mod MadeLemmas
+pub mod ScheduleLemmas
+pub mod FrameLemmas

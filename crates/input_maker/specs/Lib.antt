@@ -1,0 +1,4 @@
+pub mod Draws
+pub mod Client
+pub mod Made
+pub mod Laws
