@@ -12,29 +12,29 @@ use Rattle.input_maker.specs.Made.{frames_for, is_client, made_frames, made_line
 
 -- the numbers of a frame of the client's that aren't the same in all: total length, header's checksum, port, sequence
 -- number, flags and checksum, a byte each
-record Parts : Type 0 where
-  t1 : ℕ
-  t2 : ℕ
-  s1 : ℕ
-  s2 : ℕ
-  p1 : ℕ
-  p2 : ℕ
-  q1 : ℕ
-  q2 : ℕ
-  q3 : ℕ
-  q4 : ℕ
-  flags : ℕ
-  c1 : ℕ
-  c2 : ℕ
+pub record Parts : Type 0 where
+  pub t1 : ℕ
+  pub t2 : ℕ
+  pub s1 : ℕ
+  pub s2 : ℕ
+  pub p1 : ℕ
+  pub p2 : ℕ
+  pub q1 : ℕ
+  pub q2 : ℕ
+  pub q3 : ℕ
+  pub q4 : ℕ
+  pub flags : ℕ
+  pub c1 : ℕ
+  pub c2 : ℕ
 
 -- from the sequence number on
-abbrev rest_with : Parts → List ℕ → List ℕ
+abbrev pub rest_with : Parts → List ℕ → List ℕ
 rest_with b payload =
     b.q1 ∷ (b.q2 ∷ (b.q3 ∷ (b.q4 ∷ (0 ∷ (0 ∷ (0 ∷ (0 ∷ (0x50 ∷ (b.flags ∷ (0x10 ∷ (0 ∷ (b.c1 ∷ (b.c2
     ∷ (0 ∷ (0 ∷ payload)))))))))))))))
 
 -- as the guest would send it
-abbrev guest_frame : Parts → List ℕ → List ℕ
+abbrev pub guest_frame : Parts → List ℕ → List ℕ
 guest_frame b payload =
     0x52 ∷ (0x54 ∷ (0x00 ∷ (0xAA ∷ (0x00 ∷ (0x01 ∷ (0x52 ∷ (0x54 ∷ (0x00 ∷ (0x12 ∷ (0x34 ∷ (0x56 ∷ (0x08 ∷ (0
     ∷ (0x45 ∷ (0 ∷ (b.t1 ∷ (b.t2 ∷ (0 ∷ (0 ∷ (0x40 ∷ (0 ∷ (64 ∷ (6 ∷ (b.s1 ∷ (b.s2
@@ -42,7 +42,7 @@ guest_frame b payload =
     ∷ rest_with b payload)))))))))))))))))))))))))))))))))))))
 
 -- as the client sends it
-abbrev sent_frame : Parts → List ℕ → List ℕ
+abbrev pub sent_frame : Parts → List ℕ → List ℕ
 sent_frame b payload =
     0x52 ∷ (0x54 ∷ (0x00 ∷ (0x12 ∷ (0x34 ∷ (0x56 ∷ (0x52 ∷ (0x54 ∷ (0x00 ∷ (0xAA ∷ (0x00 ∷ (0x01 ∷ (0x08 ∷ (0
     ∷ (0x45 ∷ (0 ∷ (b.t1 ∷ (b.t2 ∷ (0 ∷ (0 ∷ (0x40 ∷ (0 ∷ (64 ∷ (6 ∷ (b.s1 ∷ (b.s2
@@ -59,7 +59,7 @@ exchanged b payload =
     (take_all (length (guest_frame b payload) - 38) (rest_with b payload) (omega arith))
 
 -- the parts of a step
-abbrev parts_of : Segment → List ℕ → Parts
+abbrev pub parts_of : Segment → List ℕ → Parts
 parts_of s payload =
     let total = 20 + tcp_len s payload in
     let header_sum = ipv4_checksum s.tuple.addr total in
@@ -80,7 +80,7 @@ parts_of s payload =
       c2 = sum % 256;
     }
 
-built : (connection step : ℕ) (payload : List ℕ) → segment_bytes (segment_at connection step) payload
+pub built : (connection step : ℕ) (payload : List ℕ) → segment_bytes (segment_at connection step) payload
     ≡ guest_frame (parts_of (segment_at connection step) payload) payload
 unfolding segment_bytes ipv4_header tcp_header
 built connection step payload = refl
@@ -100,7 +100,7 @@ length-letters : (none : Bool) (letter : ℕ) → length (if none then [] else r
 length-letters true letter = omega arith
 length-letters false letter = omega (arith, length-replicate 100 letter)
 
-length-payload : (step : ℕ) → length (payload_at step) ≤ 100
+pub length-payload : (step : ℕ) → length (payload_at step) ≤ 100
 length-payload step = length-letters (step == 0 || step == 7) (97 + step)
 
 length-sent : (b : Parts) (payload : List ℕ) → length (sent_frame b payload) ≡ 54 + length payload

@@ -2,3 +2,4 @@ pub mod ClientLemmas
 pub mod MadeLemmas
 pub mod ScheduleLemmas
 pub mod FrameLemmas
+pub mod FieldLemmas

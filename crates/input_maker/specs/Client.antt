@@ -1,6 +1,8 @@
 -- A client that opens one connection after another to port 7 of the guest, as frames (IEEE 802.3,
 -- 3.1.1; RFC 791, 3.1; RFC 9293, 3.1).
 use Rattle.std.specs.Prelude.{ℕ, ◌+◌, ◌-◌, ◌*◌, ◌/◌, ◌%◌, ◌^◌, ◌==◌, ◌||◌, if◌then◌else◌, List, [], ◌∷◌, ◌++◌, length, replicate, None, slice_range}
+use Rattle.inet_frame.specs.Counted.{guest_address, guest_mac}
+use Rattle.inet_frame.specs.Fields.{TcpFields}
 use Rattle.inet_build.specs.Segment.{segment_bytes}
 use Rattle.inet_build.specs.declared.fields.Segment.{Segment}
 
@@ -55,3 +57,20 @@ exchange_ends frame =
 unfoldable pub client_frame : ℕ → List ℕ
 client_frame index =
     exchange_ends (segment_bytes (segment_at (index / 8) (index % 8)) (payload_at (index % 8)))
+
+-- what stands in a step's frame
+abbrev pub client_fields : ℕ → ℕ → TcpFields
+client_fields connection step = record {
+  dst_mac = guest_mac;
+  src_mac = client_mac;
+  src = client_address;
+  dst = guest_address;
+  sport = 40000 + connection % 20000;
+  dport = 7;
+  seq = (1000 * (connection + 1) + offset_at step) % 2 ^ 32;
+  ack = 0;
+  flags = flags_at step;
+  window = 4096;
+  options = [];
+  payload = payload_at step;
+}

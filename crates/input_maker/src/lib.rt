@@ -7,5 +7,5 @@ mod law;
 mod making;
 
 pub use client::client_frame;
-pub use law::inputs_read_back;
+pub use law::{frames_are_accepted, inputs_read_back};
 pub use making::{Made, make_input, schedule_text};
