@@ -7,10 +7,12 @@ ghost use Rattle.colo_words.specs.Words.{texts};
 ghost use Rattle.command_tasks.specs.Tasks.{read_task};
 ghost use Rattle.file_steps.specs.Ending.{Ends, HasEnded};
 ghost use Rattle.file_steps.specs.Steps.{outside};
+ghost use Rattle.replay_laws.specs.Headline.{IsOnePair};
 
 use colo_base::{Clock, Link, Shelf, Sink};
 use command_tasks::{carry_out, read_words};
 use file_steps::{Fault, end_call};
+use replay_laws::each_replay_is_one_pair;
 use std::alloc::Global;
 
 /// The top call: carries out the command that the words spell, and gives the status to end with.
@@ -60,9 +62,18 @@ pub fn colo<S: Shelf, L: Link, K: Clock, O: Sink>(
       sink_after = O.state out.new;
       status = result;
     }) }
+    ensures theorem { IsOnePair (texts words.now) (record {
+      task = read_task (texts words.now);
+      before = outside (S.state shelf.old) (L.state link.old) (K.state clock.old);
+      after = outside (S.state shelf.new) (L.state link.new) (K.state clock.new);
+      sink_before = O.state out.old;
+      sink_after = O.state out.new;
+      status = result;
+    }) }
     ensures link { link.new ≡ link.old }
     ensures clock { clock.new ≡ clock.old }
 {
+    each_replay_is_one_pair();
     let work = carry_words(alloc, words, shelf);
     end_call(out, work)
 }

@@ -6,6 +6,3 @@ pub mod SoloLemmas
 pub mod TextLemmas
 pub mod CarryLemmas
 pub mod RunEndLemmas
-pub mod LimitLemmas
-pub mod OrderLemmas
-pub mod PairLemmas

@@ -6,4 +6,3 @@ pub mod Planning
 pub mod Splice
 pub mod Solo
 pub mod SoloEnds
-pub mod ReplayPlan

@@ -1,4 +1,4 @@
--- `replay`: the events of a pair by the lines of a schedule, and what they leave.
+-- The events of a pair by the lines of a schedule, and what they leave.
 use Rattle.std.specs.Prelude.{◌≡◌, ℕ, ◌-◌, ◌^◌, min, List, [], ◌∷◌, ◌++◌, codes, decimal, flat_map, length, sum_by, if◌then◌else◌, None, ⊤}
 use Rattle.replay_log.specs.Texts.{record_text}
 use Rattle.replay_log.specs.declared.lines.Line.{Line}
@@ -63,17 +63,10 @@ state_steps s = page_steps s.pages ++ sector_steps s.sectors
 abbrev pub survivor : Pair → Meaning
 survivor w = if is_primary w.stopped then guest_of w.second else w.first.guest
 
--- the files, in the order in which they are created
+-- the files of a pair, in the order in which they are created
 abbrev pub replay_files : List (List ℕ)
 replay_files =
     codes ".log" ∷ (codes ".released" ∷ (codes ".wire" ∷ (codes ".ram" ∷ (codes ".disk" ∷ []))))
-
--- the files are created, then event by event what it leaves is written, and at the end memory and
--- disk of the survivor
-unfoldable pub replay_steps : Pair → List Line → List Step
-replay_steps w lines =
-    creates replay_files
-    ++ (flat_map writes_of (events w lines) ++ state_steps (survivor (after_lines w lines)).state)
 
 -- ---- the line that a replay ends with
 

@@ -3,15 +3,13 @@
 
 mod image;
 mod one_file;
-mod pairs;
 mod replay;
 mod solo;
 mod splice;
 
 pub use image::write_image;
-pub use pairs::run_replay;
 pub use replay::{
-    Counts, REPLAY_FILES, count_step, run_line, run_pair, stream, summary, write_state,
+    Counts, REPLAY_FILES, count_step, run_line, stream, summary, write_state, write_step,
 };
 pub use solo::{RunEnd, SoloRun, make_run, plan_solo, run_solo};
 pub use splice::{FilePlan, plan_splice, write_splice};

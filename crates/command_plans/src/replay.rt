@@ -1,17 +1,17 @@
-//! `replay`: the events of a pair by the lines of a schedule, and what they leave.
+//! The events of a pair by the lines of a schedule, and what they leave.
 
-ghost use Rattle.std.specs.Prelude.{◌≡◌, ◌+◌, ◌<◌, ◌≤◌, ◌^◌, ◌++◌, [], None, All, IfOk, IfErr, OnOk, codes, flat_map, get_or, length, string_bytes, sum_by};
+ghost use Rattle.std.specs.Prelude.{◌≡◌, ◌+◌, ◌<◌, ◌≤◌, ◌^◌, ◌++◌, [], None, IfOk, IfErr, OnOk, codes, get_or, length, string_bytes, sum_by};
 ghost use Rattle.replay_log.specs.Texts.{record_text};
 ghost use Rattle.sock_link.specs.Stream.{record_of, stream_of};
 ghost use Rattle.file_steps.specs.Steps.{FailsToWrite, Writes, append_step};
 ghost use Rattle.pair_core.specs.Events.{event_of};
 ghost use Rattle.pair_core.specs.Pair.{pair_of};
 ghost use Rattle.pair_core.specs.Steps.{HasLimits, IsStep, refusal};
-ghost use Rattle.command_plans.specs.Replay.{AreEvents, after_lines, captures_by, count, event_at, events, page_steps, replay_steps, sector_steps, state_steps, summary_line, writes_of};
-ghost use Rattle.command_plans.specs.Steps.{IsCounted, counts_line, writes_by};
+ghost use Rattle.command_plans.specs.Replay.{captures_by, count, event_at, page_steps, sector_steps, state_steps, writes_of};
+ghost use Rattle.command_plans.specs.Steps.{counts_line, writes_by};
 
 use colo_base::{Frames, NoMemory, Shelf};
-use file_steps::{Fault, append, create_all, write_event};
+use file_steps::{Fault, append, write_event};
 use pair_core::{Pair, Step, StepFault};
 use replay_log::{Line, Mark, Marks, Record, write_record};
 use state_wire::Guest;
@@ -54,7 +54,12 @@ fn log_text(alloc: Global, entry: &Record) -> Result<Vec<u8>, NoMemory>
 }
 
 /// Writes what an event leaves.
-fn write_step<S: Shelf>(alloc: Global, shelf: &mut S, out: &str, step: &Step) -> Result<(), Fault>
+pub fn write_step<S: Shelf>(
+    alloc: Global,
+    shelf: &mut S,
+    out: &str,
+    step: &Step,
+) -> Result<(), Fault>
     ensures done { OnOk result (Writes out.now (writes_by step.now) (S.state shelf.old)
         (S.state shelf.new)) }
     ensures fails { IfErr result (FailsToWrite out.now (writes_by step.now) (S.state shelf.old)
@@ -135,39 +140,6 @@ pub fn run_line<S: Shelf, G: Guest + Drop>(
     };
     write_step(alloc, shelf, out, &step)?;
     Ok(step)
-}
-
-/// Makes the events of the lines, and writes what they leave, event by event.
-fn run_lines<S: Shelf, G: Guest + Drop>(
-    alloc: Global,
-    shelf: &mut S,
-    out: &str,
-    pair: &mut Pair<G>,
-    lines: &[Line],
-) -> Result<Counts, Fault>
-    requires limits { All HasLimits lines.now }
-    requires fresh { pair.old.steps ≡ 0 }
-    requires good { AreEvents (pair_of G.meaning pair.old) lines.now }
-    ensures after { OnOk result (pair_of G.meaning pair.new
-        ≡ after_lines (pair_of G.meaning pair.old) lines.now) }
-    ensures counts { IfOk result (IsCounted (events (pair_of G.meaning pair.old) lines.now)) }
-    ensures done { OnOk result (Writes out.now
-        (flat_map writes_of (events (pair_of G.meaning pair.old) lines.now)) (S.state shelf.old)
-        (S.state shelf.new)) }
-    ensures fails { IfErr result (FailsToWrite out.now
-        (flat_map writes_of (events (pair_of G.meaning pair.old) lines.now)) (S.state shelf.old)
-        (S.state shelf.new)) }
-{
-    let mut counts = Counts {
-        lines: 0,
-        released: 0,
-        captured: 0,
-    };
-    for line in lines {
-        let step = run_line(alloc, shelf, out, pair, line)?;
-        counts = count_step(counts, &step);
-    }
-    Ok(counts)
 }
 
 /// Writes a page of memory.
@@ -278,33 +250,4 @@ pub fn summary(alloc: Global, counts: Counts) -> Result<String, AllocError>
         captured,
     } = counts;
     format!(in alloc; "lines {lines} released {released} captured {captured}\n")
-}
-
-/// Runs a pair by the lines of a schedule, none of which is refused, and writes the files of the
-/// run. Gives the line to print.
-#[tactic(auto, unfolding(crate::specs::Replay::replay_steps))]
-pub fn run_pair<S: Shelf, G: Guest + Drop>(
-    alloc: Global,
-    shelf: &mut S,
-    out: &str,
-    pair: &mut Pair<G>,
-    lines: &[Line],
-) -> Result<String, Fault>
-    requires limits { All HasLimits lines.now }
-    requires fresh { pair.old.steps ≡ 0 }
-    requires good { AreEvents (pair_of G.meaning pair.old) lines.now }
-    ensures line { IfOk result (λ line. string_bytes line
-        ≡ summary_line (events (pair_of G.meaning pair.old) lines.now)) }
-    ensures done { OnOk result (Writes out.now
-        (replay_steps (pair_of G.meaning pair.old) lines.now) (S.state shelf.old)
-        (S.state shelf.new)) }
-    ensures fails { IfErr result (FailsToWrite out.now
-        (replay_steps (pair_of G.meaning pair.old) lines.now) (S.state shelf.old)
-        (S.state shelf.new)) }
-{
-    create_all(alloc, shelf, out, &REPLAY_FILES)?;
-    let counts = run_lines(alloc, shelf, out, pair, lines)?;
-    let line = summary(alloc, counts)?;
-    write_state(alloc, shelf, out, pair.survivor())?;
-    Ok(line)
 }

@@ -2,10 +2,10 @@
 -- that it makes of what it read.
 use Rattle.std.specs.Prelude.{ℕ, List, [], ◌∷◌, Option, option_map}
 use Rattle.command_plans.specs.Image.{image_task}
-use Rattle.command_plans.specs.ReplayPlan.{replay_texts}
 use Rattle.command_plans.specs.Solo.{solo_texts}
 use Rattle.command_plans.specs.Splice.{splice_task}
 use Rattle.file_steps.specs.Plans.{Plan, Task, offline}
+use Rattle.replay_plan.specs.ReplayPlan.{replay_texts}
 use Rattle.command_tasks.specs.Words.{Command, RunWords, image_command, read_words, replay_command, solo_command, splice_command}
 
 -- the four files that a run reads, in the order in which they are fetched

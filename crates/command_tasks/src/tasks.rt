@@ -9,8 +9,9 @@ ghost use Rattle.file_steps.specs.Reading.{AreRead, IsUntouched, ReadFails};
 
 use crate::words::{Command, Run};
 use colo_base::Shelf;
-use command_plans::{run_replay, run_solo, write_image, write_splice};
+use command_plans::{run_solo, write_image, write_splice};
 use file_steps::{Fault, read_all};
+use replay_plan::run_replay;
 use std::alloc::Global;
 
 /// The bytes of the four files that a run reads.

@@ -1,8 +1,10 @@
 //! A pair that runs.
 
-ghost use Rattle.std.specs.Prelude.{◌≡◌, ◌+◌, ◌<◌, ◌^◌, All, IfOk, OnOk};
-ghost use Rattle.pair_core.specs.Pair.{pair_of};
-ghost use Rattle.pair_core.specs.Steps.{HasLimits};
+ghost use Rattle.std.specs.Prelude.{◌≡◌, ◌≢◌, ◌+◌, ◌<◌, ◌^◌, All, IfErr, IfOk, OnOk, Some};
+ghost use Rattle.pair_core.specs.Events.{event_of};
+ghost use Rattle.pair_core.specs.Pair.{new_pair, pair_of};
+ghost use Rattle.pair_core.specs.Steps.{HasLimits, refusal};
+ghost use Rattle.pair_core.specs.declared.pair.StepFault.TheVariants as step_fault;
 ghost use Rattle.pair_history.specs.Laws.{RestsCaptured};
 ghost use Rattle.pair_world.specs.Running.{AreAlike, GoesOnBy, RunsBy, StandsForStart, TakesFrame, start_of};
 
@@ -23,6 +25,8 @@ pub fn start<G: Guest + Drop>(
     requires { AreAlike (G.meaning first) (G.meaning second) }
     ensures stands { IfOk result (λ pair. StandsForStart
         (start_of (G.meaning first) (G.meaning second) frames) (pair_of G.meaning pair)) }
+    ensures pair { IfOk result (λ pair. pair_of G.meaning pair
+        ≡ record (new_pair (G.meaning first) (G.meaning second)) { frames = frames }) }
     ensures steps { IfOk result (λ pair. pair.steps ≡ 0) }
 {
     Pair::with_frames(alloc, first, second, frames)
@@ -44,13 +48,18 @@ fn rests<G: Guest + Drop>(pair: &Pair<G>) -> bool
     pair.awaits()
 }
 
-/// The event of a line: it is the theorem's, whatever happened before.
+/// The event of a line: it is the theorem's, whatever happened before. Where memory doesn't run
+/// out it is refused exactly as the pair refuses it.
 pub fn step<G: Guest + Drop>(pair: &mut Pair<G>, line: &Line) -> Result<Step, StepFault>
     requires limits { HasLimits line.now }
     requires counted { pair.old.steps < 2 ^ 63 }
     ensures goes_on { IfOk result (GoesOnBy (pair_of G.meaning pair.old)
         (pair_of G.meaning pair.new) line.now) }
+    ensures after { OnOk result (pair_of G.meaning pair.new
+        ≡ (event_of (pair_of G.meaning pair.old) line.now).after) }
     ensures steps { OnOk result (pair.new.steps ≡ pair.old.steps + 1) }
+    ensures cause { IfErr result (λ fault. fault ≢ step_fault.NoMemory
+        → refusal (pair_of G.meaning pair.old) line.now ≡ Some fault) }
 {
     let step = match pair.step(line) {
         Ok(step) => step,

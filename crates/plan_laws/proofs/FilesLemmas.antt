@@ -4,22 +4,19 @@ use Rattle.std.specs.List.{concat}
 use Rattle.std.specs.Str.{bytes_eq}
 use Rattle.std.proofs.lemmas.List.{append-nil}
 use Rattle.std.proofs.lemmas.List.Concat.{concat_is}
-use Rattle.command_plans.specs.Replay.{Event, after_lines, events, page_steps, record_of, replay_files, replay_steps, sector_steps, state_steps, survivor, writes_of}
+use Rattle.command_plans.specs.Replay.{page_steps, sector_steps, state_steps}
 use Rattle.command_plans.specs.Solo.{left_steps, solo_files}
 use Rattle.file_steps.specs.Events.{event_steps}
 use Rattle.file_steps.specs.Steps.{Files, Step, after_steps, append_step, creates}
-use Rattle.pair_core.specs.Pair.{Pair}
-use Rattle.replay_log.specs.Texts.{record_text}
-use Rattle.replay_log.specs.declared.lines.Line.{Line}
 use Rattle.sock_link.specs.Stream.{stream_of}
 use Rattle.state_wire.specs.Guest.{GuestState}
 use Rattle.state_wire.specs.Run.{Run}
-use Rattle.plan_laws.specs.Files.{OneFileLeaves, ReplayLeaves, SoloLeaves}
+use Rattle.plan_laws.specs.Files.{OneFileLeaves, SoloLeaves}
 use Rattle.plan_laws.proofs.LeaveLemmas.{CreatesNone, after_creates, appended, appended_each, appended_one, appended_then, none_append, none_each, none_then}
 
 -- ---- none of them creates a file
 
-none_event : (log released wire : List ℕ) → CreatesNone (event_steps log released wire)
+pub none_event : (log released wire : List ℕ) → CreatesNone (event_steps log released wire)
 none_event log released wire =
     none_then (append_step (codes ".log") log)
     (append_step (codes ".released") released ++ append_step (codes ".wire") wire)
@@ -27,7 +24,7 @@ none_event log released wire =
     (none_then (append_step (codes ".released") released) (append_step (codes ".wire") wire)
     (none_append (codes ".released") released) (none_append (codes ".wire") wire))
 
-none_state : (s : GuestState) → CreatesNone (state_steps s)
+pub none_state : (s : GuestState) → CreatesNone (state_steps s)
 none_state s =
     none_then (page_steps s.pages) (sector_steps s.sectors)
     (none_each (append_step (codes ".ram")) s.pages (none_append (codes ".ram")))
@@ -35,10 +32,10 @@ none_state s =
 
 -- ---- what is appended to a file
 
-abbrev adds : List ℕ → List ℕ → List ℕ → List ℕ
+abbrev pub adds : List ℕ → List ℕ → List ℕ → List ℕ
 adds end e bytes = if bytes_eq end e then bytes else []
 
-added_event : (end log released wire : List ℕ) → appended end (event_steps log released wire)
+pub added_event : (end log released wire : List ℕ) → appended end (event_steps log released wire)
     ≡ adds end (codes ".log") log ++ (adds end (codes ".released") released ++ adds end (codes ".wire") wire)
 added_event end log released wire =
     appended_then end (append_step (codes ".log") log)
@@ -52,7 +49,7 @@ added_event end log released wire =
     (appended_one end (codes ".released") released)
     ∙ ap (λ (l : List ℕ). adds end (codes ".released") released ++ l) (appended_one end (codes ".wire") wire))))
 
-none_of_each : {T : Type 0} (xs : List T) → flat_map (λ (x : T). []) xs ≡ (let none : List ℕ = [] in none)
+pub none_of_each : {T : Type 0} (xs : List T) → flat_map (λ (x : T). []) xs ≡ (let none : List ℕ = [] in none)
 none_of_each [] = refl
 none_of_each (x ∷ xs) = none_of_each xs
 
@@ -61,7 +58,7 @@ each_is xs = sym (concat_is xs)
 
 -- of memory and disk
 module _ (s : GuestState) where
-  added_ram : appended (codes ".ram") (state_steps s) ≡ concat s.pages
+  pub added_ram : appended (codes ".ram") (state_steps s) ≡ concat s.pages
   added_ram =
       appended_then (codes ".ram") (page_steps s.pages) (sector_steps s.sectors)
       ∙ (ap (λ (l : List ℕ). l ++ appended (codes ".ram") (sector_steps s.sectors))
@@ -72,7 +69,7 @@ module _ (s : GuestState) where
       (λ x. appended_one (codes ".ram") (codes ".disk") x) ∙ none_of_each s.sectors)
       ∙ append-nil (concat s.pages)))
 
-  added_disk : appended (codes ".disk") (state_steps s) ≡ concat s.sectors
+  pub added_disk : appended (codes ".disk") (state_steps s) ≡ concat s.sectors
   added_disk =
       appended_then (codes ".disk") (page_steps s.pages) (sector_steps s.sectors)
       ∙ (ap (λ (l : List ℕ). l ++ appended (codes ".disk") (sector_steps s.sectors))
@@ -82,7 +79,7 @@ module _ (s : GuestState) where
       (λ x. appended_one (codes ".disk") (codes ".disk") x) ∙ each_is s.sectors))
 
   -- nothing of them is in a file with another ending
-  added_other : (end : List ℕ) → ((x : List ℕ) → adds end (codes ".ram") x ≡ [])
+  pub added_other : (end : List ℕ) → ((x : List ℕ) → adds end (codes ".ram") x ≡ [])
       → ((x : List ℕ) → adds end (codes ".disk") x ≡ []) → appended end (state_steps s) ≡ []
   added_other end ram disk =
       appended_then end (page_steps s.pages) (sector_steps s.sectors)
@@ -91,69 +88,6 @@ module _ (s : GuestState) where
       (λ x. appended_one end (codes ".ram") x ∙ ram x) ∙ none_of_each s.pages)
       ∙ (appended_each end (append_step (codes ".disk")) (λ x. []) s.sectors
       (λ x. appended_one end (codes ".disk") x ∙ disk x) ∙ none_of_each s.sectors))
-
--- ---- replay
-
-module _ (files : Files) (w : Pair) (lines : List Line) where
-  abbrev happened : List Step
-  happened = flat_map writes_of (events w lines)
-
-  abbrev last : GuestState
-  last = (survivor (after_lines w lines)).state
-
-  none_run : CreatesNone (happened ++ state_steps last)
-  none_run =
-      none_then happened (state_steps last)
-      (none_each writes_of (events w lines)
-      (λ (e : Event). none_event (record_text (record_of e)) (stream_of e.outcome.released) e.outcome.wire))
-      (none_state last)
-
-  -- a file of the events
-  of_events : (end : List ℕ) (g : Event → List ℕ) → ((e : Event) → appended end (writes_of e) ≡ g e)
-      → ((x : List ℕ) → adds end (codes ".ram") x ≡ []) → ((x : List ℕ) → adds end (codes ".disk") x ≡ [])
-      → after_steps files (creates replay_files) end ≡ Some []
-      → after_steps files (replay_steps w lines) end ≡ Some (flat_map g (events w lines))
-  unfolding replay_steps
-  of_events end g each ram disk is =
-      after_creates files (creates replay_files) (happened ++ state_steps last) end none_run is
-      ∙ ap (λ (l : List ℕ). Some l)
-      (appended_then end happened (state_steps last)
-      ∙ (ap (λ (l : List ℕ). appended end happened ++ l) (added_other last end ram disk)
-      ∙ (append-nil (appended end happened) ∙ appended_each end writes_of g (events w lines) each)))
-
-  -- a file of the state
-  of_state : (end bytes : List ℕ) → ((e : Event) → appended end (writes_of e) ≡ [])
-      → appended end (state_steps last) ≡ bytes → after_steps files (creates replay_files) end ≡ Some []
-      → after_steps files (replay_steps w lines) end ≡ Some bytes
-  unfolding replay_steps
-  of_state end bytes each state is =
-      after_creates files (creates replay_files) (happened ++ state_steps last) end none_run is
-      ∙ ap (λ (l : List ℕ). Some l)
-      (appended_then end happened (state_steps last)
-      ∙ (ap (λ (l : List ℕ). l ++ appended end (state_steps last))
-      (appended_each end writes_of (λ e. []) (events w lines) each ∙ none_of_each (events w lines))
-      ∙ state))
-
-pub replay_leaves : ReplayLeaves
-replay_leaves files w lines = record {
-  log = of_events files w lines (codes ".log") (λ e. record_text (record_of e))
-      (λ e. of_event (codes ".log") e ∙ append-nil (record_text (record_of e))) (λ x. refl) (λ x. refl) refl;
-  released = of_events files w lines (codes ".released") (λ e. stream_of e.outcome.released)
-      (λ e. of_event (codes ".released") e ∙ append-nil (stream_of e.outcome.released)) (λ x. refl) (λ x. refl) refl;
-  wire = of_events files w lines (codes ".wire") (λ e. e.outcome.wire) (λ e. of_event (codes ".wire") e)
-      (λ x. refl) (λ x. refl) refl;
-  state = record {
-    ram = of_state files w lines (codes ".ram") (concat (last files w lines).pages) (λ e. of_event (codes ".ram") e)
-        (added_ram (last files w lines)) refl;
-    disk = of_state files w lines (codes ".disk") (concat (last files w lines).sectors)
-        (λ e. of_event (codes ".disk") e) (added_disk (last files w lines)) refl;
-  };
-}
-  where
-    of_event : (end : List ℕ) (e : Event) → appended end (writes_of e)
-        ≡ adds end (codes ".log") (record_text (record_of e))
-        ++ (adds end (codes ".released") (stream_of e.outcome.released) ++ adds end (codes ".wire") e.outcome.wire)
-    of_event end e = added_event end (record_text (record_of e)) (stream_of e.outcome.released) e.outcome.wire
 
 -- ---- solo
 

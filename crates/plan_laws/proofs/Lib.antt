@@ -1,5 +1,4 @@
-mod FrontLemmas
-mod LeaveLemmas
-mod FilesLemmas
-mod EventLemmas
+pub mod FrontLemmas
+pub mod LeaveLemmas
+pub mod FilesLemmas
 mod StatusLemmas

@@ -1,4 +1,3 @@
 pub mod Fronts
 pub mod Files
-pub mod Events
 pub mod Statuses

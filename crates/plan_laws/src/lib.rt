@@ -2,8 +2,7 @@
 //! a function that does nothing.
 #![tactic(auto)]
 
-ghost use Rattle.plan_laws.specs.Events.{EventsAreWhole};
-ghost use Rattle.plan_laws.specs.Files.{OneFileLeaves, ReplayLeaves, SoloLeaves};
+ghost use Rattle.plan_laws.specs.Files.{OneFileLeaves, SoloLeaves};
 ghost use Rattle.plan_laws.specs.Fronts.{FrontsOfTwo, LaterFilesStay};
 ghost use Rattle.plan_laws.specs.Statuses.{RefusalsAreFirst};
 
@@ -15,16 +14,6 @@ pub fn later_files_stay()
 /// A law: steps are made in their order.
 pub fn fronts_of_two()
     ensures { FrontsOfTwo }
-{}
-
-/// A law: where a replay is cut off, what an event leaves was written before anything of the next.
-pub fn events_are_whole()
-    ensures { EventsAreWhole }
-{}
-
-/// A law: what the five files hold after a replay.
-pub fn replay_leaves()
-    ensures { ReplayLeaves }
 {}
 
 /// A law: what the three files hold after a single run.

@@ -2,10 +2,10 @@
 use Rattle.std.proofs.lemmas.Result.{err_from_is_err_and}
 use Rattle.command_plans.proofs.CarryLemmas.{carried_done, carried_fails}
 use Rattle.command_plans.proofs.TextLemmas.{read_fails}
-use Rattle.command_plans.specs.ReplayPlan.{replay_texts}
 use Rattle.command_tasks.specs.Held.{run_of}
 use Rattle.command_tasks.specs.Tasks.{run_reads}
 use Rattle.file_steps.specs.ReadBytes.{texts_of}
+use Rattle.replay_plan.specs.ReplayPlan.{replay_texts}
 use Rattle.command_tasks.proofs.tasks.replay.Goals as goal
 
 pub returns-in_err-files-clause-fails : goal.returns-in_err-files-clause-fails

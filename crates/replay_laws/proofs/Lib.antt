@@ -1,0 +1,5 @@
+mod FilesLemmas
+mod EventLemmas
+mod StopLemmas
+mod WholeLemmas
+mod HeadlineLemmas

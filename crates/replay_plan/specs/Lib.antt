@@ -1,0 +1,3 @@
+pub mod LogPlan
+pub mod Running
+pub mod ReplayPlan
