@@ -5,13 +5,12 @@
 //! connection's number and base, and `bytes` how many there are.
 
 use crate::apart::{Apart, Kept, Whole};
+use crate::words::{cut, number};
 use colo_base::Contents;
 use colo_wire::Message;
 use inet_frame::Tuple;
 use std::alloc::Global;
 use std::process::Abort;
-use std::str::SplitWhitespace;
-use std::test::Fail;
 use worked_frames::ACK_5004;
 
 /// The connection of 10.0.2.2, port 40000, to port 7.
@@ -21,99 +20,104 @@ pub const TUPLE: Tuple = Tuple {
     guest: 7,
 };
 
-/// So many zeros.
-fn zeros(alloc: Global, count: u32) -> Result<Contents, Fail> {
+/// So many zeros; `None` where memory ran out.
+fn zeros(alloc: Global, count: u32) -> Option<Contents> {
     let mut bytes = Vec::new(alloc);
     for _ in 0..count {
-        bytes.push(0)?;
+        if bytes.push(0).is_err() {
+            return None;
+        }
     }
-    Ok(Contents::from_vec(bytes))
+    Some(Contents::from_vec(bytes))
 }
 
-/// The next word's number.
-fn number(words: &mut SplitWhitespace<'_>) -> Result<u32, Fail> {
-    Ok(words.next().ok_or("no number")?.parse()?)
+fn page(alloc: Global, k: u32) -> Option<Message> {
+    let bytes = zeros(alloc, 4096)?;
+    Some(Message::Page { k, bytes })
+}
+
+fn sectors(alloc: Global, first: u32, count: u32) -> Option<Message> {
+    let bytes = zeros(alloc, count)?;
+    Some(Message::Disk { first, bytes })
+}
+
+fn bytes(alloc: Global, count: u32) -> Option<Message> {
+    let bytes = zeros(alloc, count)?;
+    Some(Message::Bytes { bytes })
 }
 
 /// A line that its client opened with 1000.
-fn line(words: &mut SplitWhitespace<'_>) -> Result<Message, Fail> {
-    let flags = number(words)?;
-    Ok(Message::Line {
+fn line(flags: u8, own: u32, base: u32) -> Message {
+    Message::Line {
         tuple: TUPLE,
         mac: [0x52, 0x54, 0, 0xAA, 0, 1],
-        flags: u8::try_from(flags)?,
+        flags,
         client: 1000,
         own: 9000,
-        number: number(words)?,
+        number: own,
         refused: 0,
         acked: 1,
         window: 4096,
         mss: 1460,
-        base: number(words)?,
-    })
+        base,
+    }
 }
 
 /// A waiting frame.
-fn held(alloc: Global) -> Result<Message, Fail> {
-    Ok(Message::Held {
+fn held(alloc: Global) -> Option<Message> {
+    let frame = ACK_5004.to_vec(alloc).ok()?;
+    Some(Message::Held {
         index: 5,
         seen: None,
         trim: 0,
-        frame: Contents::from_vec(ACK_5004.to_vec(alloc)?),
+        frame: Contents::from_vec(frame),
     })
 }
 
-/// The message that words name.
-fn message(alloc: Global, text: &str) -> Result<Message, Fail> {
-    let mut words = text.split_whitespace();
-    match words.next().ok_or("no message")? {
-        "page" => Ok(Message::Page {
-            k: number(&mut words)?,
-            bytes: zeros(alloc, 4096)?,
-        }),
-        "disk" => Ok(Message::Disk {
-            first: number(&mut words)?,
-            bytes: zeros(alloc, number(&mut words)?)?,
-        }),
+/// The message that a word and up to three numbers name.
+fn message(alloc: Global, text: &str) -> Option<Message> {
+    let (word, rest) = cut(text);
+    let (first, rest) = cut(rest);
+    let (second, third) = cut(rest);
+    match word {
+        "page" => page(alloc, number(first)),
+        "disk" => sectors(alloc, number(first), number(second)),
         "held" => held(alloc),
-        "line" => line(&mut words),
-        "bytes" => Ok(Message::Bytes {
-            bytes: zeros(alloc, number(&mut words)?)?,
-        }),
-        "end" => Ok(Message::End { e: 1 }),
-        _ => Err("no such message".into()),
+        "line" => Some(line(first.parse().unwrap_or(0), number(second), number(third))),
+        "bytes" => bytes(alloc, number(first)),
+        "end" => Some(Message::End { e: 1 }),
+        _ => None,
     }
 }
 
 /// Hears the message that words name.
-fn hear<K: Kept>(alloc: Global, kept: &mut K, text: &str) -> Result<Option<bool>, Fail> {
+fn hear<K: Kept>(alloc: Global, kept: &mut K, text: &str) -> Option<bool> {
     let message = message(alloc, text)?;
-    Ok(kept.hear(&message))
+    kept.hear(&message)
 }
 
 /// Whether a message is answered so.
-fn is_answered<K: Kept>(alloc: Global, kept: &mut K, line: &str) -> Result<bool, Fail> {
+fn is_answered<K: Kept>(alloc: Global, kept: &mut K, line: &str) -> bool {
     let (text, answer) = line.split_once(" : ").unwrap_or((line, ""));
-    Ok(match hear(alloc, kept, text)? {
+    match hear(alloc, kept, text) {
         Some(fits) => answer == if fits { "yes" } else { "no" },
         None => false,
-    })
+    }
 }
 
 /// Hears the messages of a script, and asserts of each whether it fits.
-fn play<R: Abort + AllocGlobal, K: Kept>(rt: &R, kept: &mut K, script: &str) -> Result<(), Fail> {
+fn play<R: Abort + AllocGlobal, K: Kept>(rt: &R, kept: &mut K, script: &str) {
     for line in script.lines() {
-        assert!(rt; is_answered(rt.alloc(), kept, line)?, "{line}");
+        assert!(rt; is_answered(rt.alloc(), kept, line), "{line}");
     }
-    Ok(())
 }
 
 /// What the whole gives of the messages of a script.
-fn whole<R: Abort + AllocGlobal, K: Kept + Drop>(rt: &R, script: &str) -> Result<Whole, Fail> {
+fn whole<R: Abort + AllocGlobal, K: Kept + Drop>(rt: &R, script: &str) -> Option<Whole> {
     let state = zeros(rt.alloc(), 8)?;
-    let mut kept = K::start(rt.alloc(), state).ok_or("out of memory")?;
-    play(rt, &mut kept, script)?;
-    Ok(kept.close().ok_or("out of memory")?)
+    let mut kept = K::start(rt.alloc(), state)?;
+    play(rt, &mut kept, script);
+    kept.close()
 }
 
 /// The flag 1 is of a line that is opened, and 8 of one that ends; 2147483647 is 2^31 - 1. Bytes
@@ -153,19 +157,37 @@ line 1 6000 0 : yes
 bytes 2 : yes
 ";
 
-#[test]
-fn what_has_a_place_fits(rt: HostRuntime) -> Result<(), Fail> {
-    let whole = whole::<_, Apart>(&rt, FITS)?;
-    assert_eq!(rt; whole.frames, 1);
-    Ok(())
+fn has_one_frame(whole: Option<Whole>) -> bool {
+    match whole {
+        Some(whole) => whole.frames == 1,
+        None => false,
+    }
+}
+
+fn has_last_line(whole: Option<Whole>) -> bool {
+    match whole {
+        Some(whole) => whole.lines == 1 && whole.end == Some(3),
+        None => false,
+    }
+}
+
+fn has_first_number(whole: Option<Whole>) -> bool {
+    match whole {
+        Some(whole) => whole.number == Some(5000),
+        None => false,
+    }
 }
 
 #[test]
-fn the_last_line_and_the_first_number_are_kept(rt: HostRuntime) -> Result<(), Fail> {
-    let whole = whole::<_, Apart>(&rt, LINES)?;
-    assert_eq!(rt; whole.lines, 1);
-    assert_eq!(rt; whole.end, Some(3));
-    assert_eq!(rt; whole.number, Some(5000));
-    assert_eq!(rt; whole.frames, 1);
-    Ok(())
+fn what_has_a_place_fits(rt: HostRuntime) {
+    let whole = whole::<_, Apart>(&rt, FITS);
+    assert!(rt; has_one_frame(whole));
+}
+
+#[test]
+fn the_last_line_and_the_first_number_are_kept(rt: HostRuntime) {
+    let whole = whole::<_, Apart>(&rt, LINES);
+    assert!(rt; has_last_line(whole));
+    assert!(rt; has_first_number(whole));
+    assert!(rt; has_one_frame(whole));
 }

@@ -19,7 +19,7 @@
 //! - `line PORT BASE END` and `number PORT CLIENT NUMBER`: where an own line begins and ends, and a
 //!   number that is kept.
 
-use crate::exchange::{Exchange, Pair, Sent};
+use crate::exchange::{Exchange, Pair, Sent, Why};
 use crate::words::{cut, number};
 use std::process::Abort;
 use worked_frames::{ACK_5004, ACK_5012, SYN};
@@ -266,18 +266,18 @@ fn numbers(words: &str) -> (u16, u32, u32) {
     (short(port), number(first), number(second))
 }
 
+/// Whether this is why a checkpoint starts: a word, a port and an offset.
+fn is_why(why: Why, words: &str) -> bool {
+    let (word, words) = cut(words);
+    let (port, offset) = cut(words);
+    why.word == word && why.port == short(port) && why.offset == number(offset)
+}
+
 /// The end of an event: how many frames go out, and why a checkpoint starts.
 fn is_end<P: Pair>(pair: &mut P, turn: bool, words: &str) -> bool {
     let (frames, words) = cut(words);
-    let (word, words) = cut(words);
-    let (port, offset) = cut(words);
     match pair.end(turn) {
-        Some(why) => {
-            why.word == word
-                && why.port == short(port)
-                && why.offset == number(offset)
-                && pair.released() == usize::from(short(frames))
-        }
+        Some(why) => is_why(why, words) && pair.released() == usize::from(short(frames)),
         None => false,
     }
 }
@@ -318,30 +318,55 @@ fn know<P: Pair>(pair: &mut P, words: &str) -> bool {
     pair.know(port, client, number)
 }
 
-/// Whether a step is answered so.
-fn is_answered<P: Pair>(pair: &mut P, line: &str) -> bool {
-    let (verb, words) = cut(line);
+/// Puts the survivor in the place of the node; so many frames go out.
+fn survives<P: Pair + Drop>(pair: &mut P, frames: u16) -> bool {
+    match pair.survivor() {
+        Some(survivor) => {
+            *pair = survivor;
+            pair.released() == usize::from(frames)
+        }
+        None => false,
+    }
+}
+
+/// Whether a step that happens to the node is made.
+fn happens<P: Pair + Drop>(pair: &mut P, verb: &str, words: &str) -> bool {
     match verb {
-        "own" => pair.own(&segment(words)),
-        "other" => pair.other(&segment(words)),
         "known" => know(pair, words),
-        "turn" => is_end(pair, true, words),
-        "event" => is_end(pair, false, words),
-        "turns" => are_quiet(pair, short(words)),
-        "client" => is_client(pair, words),
-        "out" => is_out(pair, words),
         "captured" => pair.capture(),
         "acknowledged" => pair.acknowledge(),
         "alone" => pair.leave_alone(),
-        "survive" => pair.survive() && pair.released() == usize::from(short(words)),
-        "line" => is_line(pair, words),
-        "number" => is_number(pair, words),
+        "survive" => survives(pair, short(words)),
         _ => false,
     }
 }
 
+/// Whether what a line asks of the node is so.
+fn is_so<P: Pair + Drop>(pair: &mut P, verb: &str, words: &str) -> bool {
+    match verb {
+        "client" => is_client(pair, words),
+        "out" => is_out(pair, words),
+        "line" => is_line(pair, words),
+        "number" => is_number(pair, words),
+        _ => happens(pair, verb, words),
+    }
+}
+
+/// Whether a step is answered so.
+fn is_answered<P: Pair + Drop>(pair: &mut P, line: &str) -> bool {
+    let (verb, words) = cut(line);
+    match verb {
+        "own" => pair.own(&segment(words)),
+        "other" => pair.other(&segment(words)),
+        "turn" => is_end(pair, true, words),
+        "event" => is_end(pair, false, words),
+        "turns" => are_quiet(pair, short(words)),
+        _ => is_so(pair, verb, words),
+    }
+}
+
 /// Plays the texts one after the other, and asserts that each line is answered so.
-fn play<R: Abort, P: Pair>(rt: &R, pair: &mut P, texts: &[&str]) {
+fn play<R: Abort, P: Pair + Drop>(rt: &R, pair: &mut P, texts: &[&str]) {
     for text in texts {
         for line in text.lines() {
             assert!(rt; is_answered(pair, line), "{line}");
@@ -365,7 +390,7 @@ fn plays_each<R: Abort + AllocGlobal, P: Pair + Drop>(rt: &R, texts: &[&str]) {
 fn opens_with<R: Abort + AllocGlobal, P: Pair + Drop>(rt: &R, frame: &[u8]) {
     let mut pair = P::start(rt.alloc());
     play(rt, &mut pair, &[OPENING]);
-    assert_eq!(rt; pair.frame(0), Some(frame));
+    assert!(rt; pair.frame(0) == Some(frame));
 }
 
 #[test]

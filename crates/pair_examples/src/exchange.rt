@@ -58,8 +58,11 @@ pub trait Pair {
     fn acknowledge(&mut self) -> bool;
     /// The other node stopped.
     fn leave_alone(&mut self) -> bool;
-    /// The node becomes the survivor with its own lines and the number of the first client's port.
-    fn survive(&mut self) -> bool;
+    /// The survivor that has the node's own lines and the number of the first client's port; `None`
+    /// where memory ran out.
+    fn survivor(&self) -> Option<Self>
+    where
+        Self: Sized;
     /// Where an own line begins and ends.
     fn line(&self, port: u16) -> Option<(u32, u32)>;
     /// The kept number of a client.
@@ -135,12 +138,6 @@ fn survivor(alloc: Global, compare: &Compare, out: &mut Frames) -> Result<Compar
     let lines = compare.lines().copy()?;
     let numbers = first_number(alloc, compare)?;
     Compare::survive(alloc, lines, numbers, out)
-}
-
-/// Makes a comparer the survivor that has its own lines.
-fn survive(alloc: Global, compare: &mut Compare, out: &mut Frames) -> Result<(), NoMemory> {
-    *compare = survivor(alloc, compare, out)?;
-    Ok(())
 }
 
 impl Pair for Exchange {
@@ -224,9 +221,14 @@ impl Pair for Exchange {
         true
     }
 
-    fn survive(&mut self) -> bool {
-        self.out = Frames::new(self.alloc);
-        survive(self.alloc, &mut self.compare, &mut self.out).is_ok()
+    fn survivor(&self) -> Option<Exchange> {
+        let mut out = Frames::new(self.alloc);
+        let compare = survivor(self.alloc, &self.compare, &mut out).ok()?;
+        Some(Exchange {
+            alloc: self.alloc,
+            compare,
+            out,
+        })
     }
 
     fn line(&self, port: u16) -> Option<(u32, u32)> {

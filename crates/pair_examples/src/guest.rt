@@ -1,10 +1,8 @@
 //! The test guest, as a table drives it.
 
-use colo_base::{Frames, NoMemory};
+use colo_base::Frames;
 use state_wire::{Guest, ScriptGuest};
 use std::alloc::Global;
-use std::process::Abort;
-use std::test::Fail;
 
 /// What the tests drive. No call has a clause, so that what the contracts say stands in no goal of
 /// a test; `false` is also where memory ran out.
@@ -66,15 +64,33 @@ impl Driven for ScriptGuest {
     }
 }
 
-/// A table whose second place has two frames, and whose first has none.
-fn table(alloc: Global) -> Result<Vec<Frames>, NoMemory> {
+/// The frames of a place.
+fn two(alloc: Global) -> Option<Frames> {
     let mut two = Frames::new(alloc);
-    two.push(b"first frame..")?;
-    two.push(b"second")?;
+    if two.push(b"first frame..").is_ok() && two.push(b"second").is_ok() {
+        Some(two)
+    } else {
+        None
+    }
+}
+
+/// A table whose second place has two frames, and whose first has none.
+fn table(alloc: Global) -> Option<Vec<Frames>> {
+    let two = two(alloc)?;
     let mut table = Vec::new(alloc);
-    table.push(Frames::new(alloc))?;
-    table.push(two)?;
-    Ok(table)
+    if table.push(Frames::new(alloc)).is_ok() && table.push(two).is_ok() {
+        Some(table)
+    } else {
+        None
+    }
+}
+
+/// A guest over the table that has made no turn.
+fn started<D: Driven>(alloc: Global) -> Option<D> {
+    match table(alloc) {
+        Some(table) => Some(D::start(alloc, table)),
+        None => None,
+    }
 }
 
 /// The state after two turns. 31 * 0 + 1 + 1 is 2, and 31 * 2 + 2 + 1 is 65.
@@ -90,48 +106,55 @@ fn sent<D: Driven>(alloc: Global, guest: &mut D) -> Option<Frames> {
     }
 }
 
-/// Asserts what two turns send.
-fn sends_its_place<R: Abort + AllocGlobal, D: Driven>(rt: &R, guest: &mut D) -> Result<(), Fail> {
-    let out = sent(rt.alloc(), guest).ok_or("out of memory")?;
-    assert_eq!(rt; out.len(), 2);
-    assert!(rt; out.get(1) == Some(b"second".as_slice()));
-    assert_eq!(rt; guest.count(), 2);
-    Ok(())
+fn are_sent(out: &Frames) -> bool {
+    out.len() == 2 && out.get(1) == Some(b"second".as_slice())
 }
 
-/// Asserts that a guest has the state above.
-fn has_state<R: Abort + AllocGlobal, D: Driven>(rt: &R, guest: &D) {
-    let mut state = Vec::new(rt.alloc());
-    assert!(rt; guest.add_state(&mut state));
-    assert_eq!(rt; state.as_slice(), STATE);
+/// Whether two turns send what stands in their places.
+fn sends_its_place<D: Driven>(alloc: Global, guest: &mut D) -> bool {
+    match sent(alloc, guest) {
+        Some(out) => are_sent(&out) && guest.count() == 2,
+        None => false,
+    }
 }
 
-/// Asserts what a guest sends, and that its state is loaded by another one.
-fn is_driven<R: Abort + AllocGlobal, D: Driven + Drop>(rt: &R) -> Result<(), Fail> {
-    let mut guest = D::start(rt.alloc(), table(rt.alloc())?);
-    sends_its_place(rt, &mut guest)?;
-    has_state(rt, &guest);
-    let mut other = D::start(rt.alloc(), table(rt.alloc())?);
-    assert!(rt; other.load(STATE));
-    has_state(rt, &other);
-    assert_eq!(rt; other.count(), 0);
-    Ok(())
+/// Whether a guest has the state above.
+fn has_state<D: Driven>(alloc: Global, guest: &D) -> bool {
+    let mut state = Vec::new(alloc);
+    guest.add_state(&mut state) && state.as_slice() == STATE
 }
 
-/// Asserts that a guest has no pages and no sectors, and which states are long enough.
-fn has_no_parts<R: Abort + AllocGlobal, D: Driven + Drop>(rt: &R) -> Result<(), Fail> {
-    let guest = D::start(rt.alloc(), table(rt.alloc())?);
-    assert!(rt; !guest.has_parts());
-    assert!(rt; !guest.is_state(&[0; 7]) && guest.is_state(&[0; 8]));
-    Ok(())
+/// Whether a guest sends its places, and has the state above then.
+fn is_driven<D: Driven + Drop>(alloc: Global) -> bool {
+    match started::<D>(alloc) {
+        Some(mut guest) => sends_its_place(alloc, &mut guest) && has_state(alloc, &guest),
+        None => false,
+    }
+}
+
+/// Whether another guest loads that state, which is no turn.
+fn is_loaded<D: Driven + Drop>(alloc: Global) -> bool {
+    match started::<D>(alloc) {
+        Some(mut guest) => guest.load(STATE) && has_state(alloc, &guest) && guest.count() == 0,
+        None => false,
+    }
+}
+
+/// Whether a guest has no pages and no sectors, and a state has eight bytes at least.
+fn has_no_parts<D: Driven + Drop>(alloc: Global) -> bool {
+    match started::<D>(alloc) {
+        Some(guest) => !guest.has_parts() && !guest.is_state(&[0; 7]) && guest.is_state(&[0; 8]),
+        None => false,
+    }
 }
 
 #[test]
-fn a_turn_sends_its_place_of_the_table(rt: HostRuntime) -> Result<(), Fail> {
-    is_driven::<_, ScriptGuest>(&rt)
+fn a_turn_sends_its_place_of_the_table(rt: HostRuntime) {
+    assert!(rt; is_driven::<ScriptGuest>(rt.alloc()));
+    assert!(rt; is_loaded::<ScriptGuest>(rt.alloc()));
 }
 
 #[test]
-fn there_are_no_pages_and_no_sectors(rt: HostRuntime) -> Result<(), Fail> {
-    has_no_parts::<_, ScriptGuest>(&rt)
+fn there_are_no_pages_and_no_sectors(rt: HostRuntime) {
+    assert!(rt; has_no_parts::<ScriptGuest>(rt.alloc()));
 }

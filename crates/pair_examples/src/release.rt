@@ -32,13 +32,18 @@ const TUPLE: Tuple = Tuple {
     guest: 7,
 };
 
-/// What a guest sent.
-fn taken(alloc: Global, syn: &[u8]) -> Result<Tracker, NoMemory> {
+fn take(tracker: &mut Tracker, frame: &[u8]) -> bool {
+    tracker.take(frame).is_ok()
+}
+
+/// What a guest sent; `None` where memory ran out.
+fn taken(alloc: Global, syn: &[u8]) -> Option<Tracker> {
     let mut tracker = Tracker::new(alloc);
-    tracker.take(syn)?;
-    tracker.take(&DIGITS)?;
-    tracker.take(&END)?;
-    Ok(tracker)
+    if take(&mut tracker, syn) && take(&mut tracker, &DIGITS) && take(&mut tracker, &END) {
+        Some(tracker)
+    } else {
+        None
+    }
 }
 
 /// The two nodes' lines, under the number 5000.
@@ -96,29 +101,24 @@ fn released_by(
     }
 }
 
-/// What both guests sent, the first under 5000.
-fn both(alloc: Global) -> Result<(Tracker, Tracker), NoMemory> {
-    let mine = taken(alloc, &SYN)?;
-    let theirs = taken(alloc, &OTHER_SYN)?;
-    Ok((mine, theirs))
-}
-
 impl Release for Digits {
     fn released(alloc: Global, from: Offset, to: Offset) -> Option<Frames> {
-        match both(alloc) {
-            Ok((mine, theirs)) => released_by(alloc, &mine, &theirs, from, to),
-            Err(NoMemory) => None,
-        }
+        let mine = taken(alloc, &SYN)?;
+        let theirs = taken(alloc, &OTHER_SYN)?;
+        released_by(alloc, &mine, &theirs, from, to)
+    }
+}
+
+fn is_alone(out: Option<Frames>, frame: &[u8]) -> bool {
+    match out {
+        Some(out) => out.len() == 1 && out.get(0) == Some(frame),
+        None => false,
     }
 }
 
 /// Asserts that one frame goes out between two offsets.
 fn goes_out<R: Abort + AllocGlobal, D: Release>(rt: &R, from: Offset, to: Offset, frame: &[u8]) {
-    let out = D::released(rt.alloc(), from, to);
-    assert!(rt;
-        out.as_ref()
-            .is_some_and(|out| out.len() == 1 && out.get(0) == Some(frame))
-    );
+    assert!(rt; is_alone(D::released(rt.alloc(), from, to), frame));
 }
 
 #[test]

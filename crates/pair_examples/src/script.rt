@@ -104,59 +104,69 @@ reply 525400AA0001 525400123456 0806 0001 0800 06 04 0002 525400123456 0A00020F 
 ";
 
 /// The words of a name.
-fn named(name: &str) -> Result<&'static str, Fail> {
+fn named(name: &str) -> Option<&'static str> {
     for line in NAMES.lines() {
-        if let Some((first, words)) = line.split_once(' ') {
-            if first == name {
-                return Ok(words);
-            }
+        let (first, words) = cut(line);
+        if first == name {
+            return Some(words);
         }
     }
-    Err("no such name".into())
+    None
 }
 
 /// What a hexadecimal digit stands for.
-fn digit(byte: u8) -> Result<u8, Fail> {
+fn digit(byte: u8) -> Option<u8> {
     match byte {
-        b'0'..=b'9' => Ok(byte - b'0'),
-        b'A'..=b'F' => Ok(byte - b'A' + 10),
-        _ => Err("no digit".into()),
+        b'0'..=b'9' => Some(byte - b'0'),
+        b'A'..=b'F' => Some(byte - b'A' + 10),
+        _ => None,
     }
+}
+
+/// The byte of two hexadecimal digits.
+fn byte(high: u8, low: u8) -> Option<u8> {
+    Some(digit(high)? << 4 | digit(low)?)
 }
 
 /// Appends the bytes of hexadecimal digits.
-fn put_digits(word: &str, out: &mut Vec<u8>) -> Result<(), Fail> {
-    let mut high = None;
-    for byte in word.as_bytes() {
-        let low = digit(*byte)?;
-        high = match high {
-            None => Some(low),
-            Some(high) => {
-                out.push(high << 4 | low)?;
-                None
+fn put_digits(word: &str, out: &mut Vec<u8>) -> bool {
+    let mut rest = word.as_bytes();
+    while let [high, low, left @ ..] = rest {
+        match byte(*high, *low) {
+            Some(byte) => {
+                if out.push(byte).is_err() {
+                    return false;
+                }
             }
-        };
+            None => return false,
+        }
+        rest = left;
     }
-    Ok(())
+    rest.is_empty()
 }
 
 /// Appends so many zeros.
-fn put_zeros(count: usize, out: &mut Vec<u8>) -> Result<(), Fail> {
+fn put_zeros(count: u32, out: &mut Vec<u8>) -> bool {
     for _ in 0..count {
-        out.push(0)?;
+        if out.push(0).is_err() {
+            return false;
+        }
     }
-    Ok(())
+    true
 }
 
 /// Appends the bytes of words without names.
-fn put_words(words: &str, out: &mut Vec<u8>) -> Result<(), Fail> {
+fn put_words(words: &str, out: &mut Vec<u8>) -> bool {
     for word in words.split_whitespace() {
-        match word.strip_prefix('*') {
-            Some(count) => put_zeros(count.parse()?, out)?,
-            None => put_digits(word, out)?,
+        let is_put = match word.strip_prefix('*') {
+            Some(count) => put_zeros(number(count), out),
+            None => put_digits(word, out),
+        };
+        if !is_put {
+            return false;
         }
     }
-    Ok(())
+    true
 }
 
 /// Whether a word is a name.
@@ -166,30 +176,66 @@ fn is_name(word: &str) -> bool {
         .is_some_and(|byte| byte.is_ascii_lowercase())
 }
 
-/// The bytes of words.
-fn bytes(alloc: Global, words: &str) -> Result<Vec<u8>, Fail> {
+/// Appends the bytes of a word or a name.
+fn put_word(word: &str, out: &mut Vec<u8>) -> bool {
+    if !is_name(word) {
+        return put_words(word, out);
+    }
+    match named(word) {
+        Some(words) => put_words(words, out),
+        None => false,
+    }
+}
+
+/// The bytes of words; `None` where one is no name, or where memory ran out.
+fn bytes(alloc: Global, words: &str) -> Option<Vec<u8>> {
     let mut out = Vec::new(alloc);
     for word in words.split_whitespace() {
-        if is_name(word) {
-            put_words(named(word)?, &mut out)?;
-        } else {
-            put_words(word, &mut out)?;
+        if !put_word(word, &mut out) {
+            return None;
         }
     }
-    Ok(out)
+    Some(out)
+}
+
+/// Appends the frame of words, where there is one.
+fn put_frame(alloc: Global, words: &str, out: &mut Frames) -> bool {
+    if words == "none" {
+        return true;
+    }
+    match bytes(alloc, words) {
+        Some(frame) => out.add(frame).is_ok(),
+        None => false,
+    }
+}
+
+/// A place of a table.
+fn place(alloc: Global, words: &str) -> Option<Frames> {
+    let mut sent = Frames::new(alloc);
+    if put_frame(alloc, words, &mut sent) {
+        Some(sent)
+    } else {
+        None
+    }
+}
+
+/// Appends a place to a table.
+fn put_place(alloc: Global, words: &str, table: &mut Vec<Frames>) -> bool {
+    match place(alloc, words) {
+        Some(sent) => table.push(sent).is_ok(),
+        None => false,
+    }
 }
 
 /// The guest's table.
-fn table(alloc: Global) -> Result<Vec<Frames>, Fail> {
+fn table(alloc: Global) -> Option<Vec<Frames>> {
     let mut table = Vec::new(alloc);
     for words in TABLE.lines() {
-        let mut sent = Frames::new(alloc);
-        if words != "none" {
-            sent.push(&bytes(alloc, words)?)?;
+        if !put_place(alloc, words, &mut table) {
+            return None;
         }
-        table.push(sent)?;
     }
-    Ok(table)
+    Some(table)
 }
 
 /// Whether a message did what an answer says: the number of its kind, and what else it did; or why
@@ -242,6 +288,13 @@ fn is_let_in(gate: Option<Gate>, answer: &str) -> bool {
     }
 }
 
+fn is_taken(gate: Option<Option<Gate>>, answer: &str) -> bool {
+    match gate {
+        Some(gate) => is_let_in(gate, answer),
+        None => false,
+    }
+}
+
 fn is_turn(turned: Turned, answer: &str) -> bool {
     match turned {
         Turned::Made(Some(index)) => u64::from(number(answer)) == index,
@@ -291,113 +344,140 @@ impl<N: Node + Drop> Played<N> {
             .go(u64::from(number(ticks)), wish == "1", &mut self.out)
     }
 
-    fn client(&mut self, words: &str) -> Result<Option<Gate>, Fail> {
+    /// A client's frame comes; `None` where its words are none, or where memory ran out.
+    fn client(&mut self, words: &str) -> Option<Option<Gate>> {
         let (index, words) = cut(words);
         let frame = bytes(self.alloc, words)?;
         self.clear();
-        Ok(
-            self.node
-                .receive(u64::from(number(index)), &frame, &mut self.out)?,
-        )
+        self.node
+            .receive(u64::from(number(index)), &frame, &mut self.out)
+            .ok()
     }
 
     /// A client's frame comes 4,096 times, of which the last one is answered.
-    fn crowd(&mut self, words: &str) -> Result<Option<Gate>, Fail> {
+    fn crowd(&mut self, words: &str) -> Option<Option<Gate>> {
         for _ in 1..4096 {
-            let _ = self.client(words)?;
+            if self.client(words).is_none() {
+                return None;
+            }
         }
         self.client(words)
     }
 
-    fn report(&mut self) -> Result<u32, Fail> {
+    /// Whether so many frames go out at the other node's stop.
+    fn is_reported(&mut self, answer: &str) -> bool {
         self.clear();
-        self.node.survive(&mut self.out)?;
-        self.released()
+        self.node.survive(&mut self.out).is_ok() && self.is_released(answer)
     }
 
-    /// How many frames went out.
-    fn released(&self) -> Result<u32, Fail> {
-        Ok(u32::try_from(self.out.len())?)
+    /// Whether so many frames went out.
+    fn is_released(&self, answer: &str) -> bool {
+        self.out.len() == number(answer) as usize
     }
 
-    fn out(&self, words: &str) -> Result<&'static str, Fail> {
+    fn is_out(&self, words: &str, answer: &str) -> bool {
         let (k, words) = cut(words);
-        let wanted = bytes(self.alloc, words)?;
-        Ok(compared(self.out.get(number(k) as usize), &wanted))
+        match bytes(self.alloc, words) {
+            Some(wanted) => compared(self.out.get(number(k) as usize), &wanted) == answer,
+            None => false,
+        }
     }
 
-    fn says(&mut self, words: &str) -> Result<&'static str, Fail> {
-        let wanted = bytes(self.alloc, words)?;
+    fn is_said(&mut self, words: &str, answer: &str) -> bool {
         let oldest = self.node.oldest();
-        Ok(compared(oldest.as_deref(), &wanted))
+        match bytes(self.alloc, words) {
+            Some(wanted) => compared(oldest.as_deref(), &wanted) == answer,
+            None => false,
+        }
     }
 
-    fn state(&self, words: &str) -> Result<&'static str, Fail> {
-        let wanted = bytes(self.alloc, words)?;
+    fn has_state(&self, words: &str, answer: &str) -> bool {
         let mut state = Vec::new(self.alloc);
-        self.node.state(&mut state)?;
-        Ok(compared(Some(&state), &wanted))
+        if self.node.state(&mut state).is_err() {
+            return false;
+        }
+        match bytes(self.alloc, words) {
+            Some(wanted) => compared(Some(&state), &wanted) == answer,
+            None => false,
+        }
     }
 
-    fn is_heard(&mut self, words: &str, answer: &str) -> Result<bool, Fail> {
-        let message = bytes(self.alloc, words)?;
-        Ok(is_told(self.hear(&message), answer))
+    fn is_heard(&mut self, words: &str, answer: &str) -> bool {
+        match bytes(self.alloc, words) {
+            Some(message) => is_told(self.hear(&message), answer),
+            None => false,
+        }
     }
 
-    fn is_filled(&mut self, words: &str, answer: &str) -> Result<bool, Fail> {
-        let message = bytes(self.alloc, words)?;
-        Ok(is_told(self.fill(&message), answer))
+    fn is_filled(&mut self, words: &str, answer: &str) -> bool {
+        match bytes(self.alloc, words) {
+            Some(message) => is_told(self.fill(&message), answer),
+            None => false,
+        }
+    }
+
+    fn is_turned(&mut self, words: &str, answer: &str) -> bool {
+        match self.turn(words) {
+            Ok(turned) => is_turn(turned, answer),
+            Err(NoMemory) => false,
+        }
+    }
+
+    fn is_captured(&mut self, answer: &str) -> bool {
+        match self.node.capture() {
+            Ok(found) => is_number(found, answer),
+            Err(NoMemory) => false,
+        }
     }
 
     /// Whether a question is answered so.
-    fn is_so(&mut self, verb: &str, words: &str, answer: &str) -> Result<bool, Fail> {
-        Ok(match verb {
-            "ask" => is_number(self.node.capture()?, answer),
-            "released" => self.released()? == number(answer),
-            "out" => self.out(words)? == answer,
-            "says" => self.says(words)? == answer,
-            "state" => self.state(words)? == answer,
+    fn is_so(&mut self, verb: &str, words: &str, answer: &str) -> bool {
+        match verb {
+            "ask" => self.is_captured(answer),
+            "released" => self.is_released(answer),
+            "out" => self.is_out(words, answer),
+            "says" => self.is_said(words, answer),
+            "state" => self.has_state(words, answer),
             "turns" => self.node.turned() == u64::from(number(answer)),
             _ => false,
-        })
+        }
     }
 
     /// Whether a step is answered so.
-    fn is_answered(&mut self, asked: &str, answer: &str) -> Result<bool, Fail> {
+    fn is_answered(&mut self, asked: &str, answer: &str) -> bool {
         let (verb, words) = cut(asked);
         match verb {
             "hear" => self.is_heard(words, answer),
             "fill" => self.is_filled(words, answer),
-            "turn" => Ok(is_turn(self.turn(words)?, answer)),
-            "client" => Ok(is_let_in(self.client(words)?, answer)),
-            "crowd" => Ok(is_let_in(self.crowd(words)?, answer)),
-            "report" => Ok(self.report()? == number(answer)),
+            "turn" => self.is_turned(words, answer),
+            "client" => is_taken(self.client(words), answer),
+            "crowd" => is_taken(self.crowd(words), answer),
+            "report" => self.is_reported(answer),
             _ => self.is_so(verb, words, answer),
         }
     }
 }
 
 /// Plays a script, and asserts that each line is answered so.
-fn play<R: Abort, N: Node + Drop>(
-    rt: &R,
-    played: &mut Played<N>,
-    script: &str,
-) -> Result<(), Fail> {
+fn play<R: Abort, N: Node + Drop>(rt: &R, played: &mut Played<N>, script: &str) {
     for line in script.lines() {
-        let (asked, answer) = line.split_once(" : ").ok_or("no answer")?;
-        assert!(rt; played.is_answered(asked, answer)?, "{line}");
+        let (asked, answer) = line.split_once(" : ").unwrap_or((line, ""));
+        assert!(rt; played.is_answered(asked, answer), "{line}");
     }
-    Ok(())
+}
+
+/// A node whose guest has made no turn.
+fn started<N: Node + Drop>(alloc: Global) -> Option<Played<N>> {
+    let node = N::start(alloc, table(alloc)?)?;
+    let out = Frames::new(alloc);
+    Some(Played { alloc, node, out })
 }
 
 /// Plays scripts one after the other at a node whose guest has made no turn.
 pub fn plays<R: Abort + AllocGlobal, N: Node + Drop>(rt: &R, scripts: &[&str]) -> Result<(), Fail> {
-    let alloc = rt.alloc();
-    let node = N::start(alloc, table(alloc)?).ok_or("out of memory")?;
-    let out = Frames::new(alloc);
-    let mut played = Played { alloc, node, out };
+    let mut played = started::<N>(rt.alloc()).ok_or("out of memory")?;
     for script in scripts {
-        play(rt, &mut played, script)?;
+        play(rt, &mut played, script);
     }
     Ok(())
 }

@@ -8,14 +8,13 @@
 //! file's text, `size FILE` its size, `same FILE FILE` whether both have the same bytes, and
 //! `jumps FILE` whether it is 16 MiB of memory with a jump to itself. In texts `;` ends a line.
 
+mod program;
 mod secondary;
 mod single_runs;
 
-use colo_base::{MemoryLink, MemoryShelf, MemorySink, NoMemory, ScriptClock};
-use colo_top::colo;
+use program::{Memory, Program};
 use std::alloc::Global;
 use std::process::Abort;
-use std::test::Fail;
 
 /// The file header and the front of the program header of an image, up to the offset in the file
 /// and the virtual address of its one segment, which stands directly after the headers.
@@ -32,189 +31,240 @@ bytes client
 text schedule P 10 0 0 5;P 10 0 0 5;P 10 0 0 5;
 ";
 
-/// A text with line feeds for semicolons.
-fn lines_of(alloc: Global, text: &str) -> Result<String, NoMemory> {
-    Ok(text.replace(alloc, ';', "\n")?)
+/// The first word of a text, and the rest.
+fn cut(text: &str) -> (&str, &str) {
+    text.split_once(' ').unwrap_or((text, ""))
 }
 
-/// Appends so many zeros.
-fn put_zeros(count: usize, out: &mut Vec<u8>) -> Result<(), NoMemory> {
+/// Appends so many zeros; `false` where memory ran out.
+fn put_zeros(count: u32, out: &mut Vec<u8>) -> bool {
     for _ in 0..count {
-        out.push(0)?;
+        if out.push(0).is_err() {
+            return false;
+        }
     }
-    Ok(())
+    true
 }
 
 /// Appends the bytes of a word.
-fn put_word(word: &str, out: &mut Vec<u8>) -> Result<(), Fail> {
+fn put_word(word: &str, out: &mut Vec<u8>) -> bool {
     match word.strip_prefix('*') {
-        Some(count) => put_zeros(count.parse()?, out)?,
-        None => out.extend_from_slice(&u32::from_str_radix(word, 16)?.to_be_bytes())?,
+        Some(count) => put_zeros(count.parse().unwrap_or(0), out),
+        None => match u32::from_str_radix(word, 16) {
+            Ok(number) => out.extend_from_slice(&number.to_be_bytes()).is_ok(),
+            Err(_) => false,
+        },
     }
-    Ok(())
 }
 
 /// Appends the bytes of words.
-fn put_words(words: &str, out: &mut Vec<u8>) -> Result<(), Fail> {
+fn put_words(words: &str, out: &mut Vec<u8>) -> bool {
     for word in words.split_whitespace() {
-        put_word(word, out)?;
+        if !put_word(word, out) {
+            return false;
+        }
     }
-    Ok(())
+    true
 }
 
-/// Makes a text the contents of a file.
-fn text(alloc: Global, shelf: &mut MemoryShelf, words: &str) -> Result<String, Fail> {
-    let (name, text) = words.split_once(' ').unwrap_or((words, ""));
-    shelf.set(name, lines_of(alloc, text)?.as_bytes())?;
-    Ok(String::new(alloc))
+/// Appends the bytes of words, of which the first may be `headers`.
+fn put_contents(words: &str, out: &mut Vec<u8>) -> bool {
+    match words.strip_prefix("headers ") {
+        Some(rest) => put_words(HEADERS, out) && put_words(rest, out),
+        None => put_words(words, out),
+    }
 }
 
 /// Makes bytes the contents of a file.
-fn bytes(alloc: Global, shelf: &mut MemoryShelf, words: &str) -> Result<String, Fail> {
-    let (name, words) = words.split_once(' ').unwrap_or((words, ""));
+fn is_made<P: Program>(alloc: Global, program: &mut P, words: &str) -> bool {
+    let (name, words) = cut(words);
     let mut bytes = Vec::new(alloc);
-    match words.strip_prefix("headers ") {
-        Some(rest) => {
-            put_words(HEADERS, &mut bytes)?;
-            put_words(rest, &mut bytes)?;
-        }
-        None => put_words(words, &mut bytes)?,
+    put_contents(words, &mut bytes) && program.set(name, &bytes)
+}
+
+/// Makes a text, with line feeds for semicolons, the contents of a file.
+fn is_written<P: Program>(alloc: Global, program: &mut P, words: &str) -> bool {
+    let (name, text) = cut(words);
+    match text.replace(alloc, ';', "\n") {
+        Ok(lines) => program.set(name, lines.as_bytes()),
+        Err(_) => false,
     }
-    shelf.set(name, &bytes)?;
-    Ok(String::new(alloc))
 }
 
 /// Lets a call of the files fail.
-fn fail(alloc: Global, shelf: &mut MemoryShelf, call: &str) -> Result<String, Fail> {
-    shelf.fail(call.parse()?)?;
-    Ok(String::new(alloc))
+fn fails<P: Program>(program: &mut P, word: &str) -> bool {
+    match word.parse() {
+        Ok(call) => program.fail(call),
+        Err(_) => false,
+    }
+}
+
+/// Whether bytes are a text, with line feeds for semicolons.
+fn is_text(alloc: Global, bytes: &[u8], text: &str) -> bool {
+    match text.replace(alloc, ';', "\n") {
+        Ok(lines) => lines.as_bytes() == bytes,
+        Err(_) => false,
+    }
+}
+
+/// Appends a word; `false` where memory ran out.
+fn put_own(alloc: Global, word: &str, words: &mut Vec<String>) -> bool {
+    match String::from_str(alloc, word) {
+        Ok(word) => words.push(word).is_ok(),
+        Err(_) => false,
+    }
 }
 
 /// The words of a command line.
-fn command_line(alloc: Global, words: &str) -> Result<Vec<String>, NoMemory> {
+fn command_line(alloc: Global, words: &str) -> Option<Vec<String>> {
     let mut command_line = Vec::new(alloc);
     for word in words.split_whitespace() {
-        command_line.push(String::from_str(alloc, word)?)?;
+        if !put_own(alloc, word, &mut command_line) {
+            return None;
+        }
     }
-    Ok(command_line)
+    Some(command_line)
 }
 
-/// Calls the program, and gives the status.
-fn call(
-    alloc: Global,
-    shelf: &mut MemoryShelf,
-    words: &str,
-    out: &mut MemorySink,
-) -> Result<u8, NoMemory> {
-    let words = command_line(alloc, words)?;
-    let mut link = MemoryLink::new(alloc);
-    let mut clock = ScriptClock::new(Vec::new(alloc));
-    Ok(colo(alloc, &words, shelf, &mut link, &mut clock, out))
+/// Calls the program with these words. Gives its status, but none where memory ran out.
+fn status_of<P: Program>(alloc: Global, program: &mut P, words: &str) -> Option<u8> {
+    match command_line(alloc, words) {
+        Some(words) => Some(program.run(&words)),
+        None => None,
+    }
 }
 
-/// A text of bytes, with semicolons for line feeds.
-fn shown(alloc: Global, bytes: &[u8]) -> Result<String, Fail> {
-    Ok(str::from_utf8(bytes)?.replace(alloc, '\n', ";")?)
+/// Whether the program ends with this status, and prints this text.
+fn ends<P: Program>(alloc: Global, program: &mut P, words: &str, answer: &str) -> bool {
+    let (status, text) = cut(answer);
+    match status.parse() {
+        Ok(status) => {
+            status_of(alloc, program, words) == Some(status)
+                && is_text(alloc, program.printed(), text)
+        }
+        Err(_) => false,
+    }
 }
 
-/// Calls the program, and answers its status and what is printed.
-fn run(alloc: Global, shelf: &mut MemoryShelf, words: &str) -> Result<String, Fail> {
-    let mut out = MemorySink::new(alloc);
-    let status = call(alloc, shelf, words, &mut out)?;
-    let printed = shown(alloc, out.bytes())?;
-    Ok(format!(in alloc; "{status} {printed}")?)
+/// How many bytes a file has.
+fn size_of<P: Program>(program: &P, name: &str) -> Option<usize> {
+    match program.contents(name) {
+        Some(bytes) => Some(bytes.len()),
+        None => None,
+    }
 }
 
-/// How many bytes a file has, as text.
-fn size(alloc: Global, shelf: &MemoryShelf, name: &str) -> Result<String, Fail> {
-    Ok(match shelf.contents(name) {
-        Some(bytes) => format!(in alloc; "{}", bytes.len())?,
-        None => String::from_str(alloc, "none")?,
-    })
+/// Whether the size of the file `image` is printed.
+fn prints_size<P: Program>(alloc: Global, program: &P) -> bool {
+    let size = size_of(program, "image").unwrap_or(0);
+    match format!(in alloc; "bytes {size};") {
+        Ok(text) => is_text(alloc, program.printed(), &text),
+        Err(_) => false,
+    }
 }
 
-/// The text of a file.
-fn read(alloc: Global, shelf: &MemoryShelf, name: &str) -> Result<String, Fail> {
-    shown(alloc, shelf.contents(name).ok_or("no file")?)
+/// Whether a demo image is written to the file `image`, and its size is printed.
+fn is_image<P: Program>(alloc: Global, program: &mut P, name: &str) -> bool {
+    match format!(in alloc; "image {name} image") {
+        Ok(words) => { status_of(alloc, program, &words) == Some(0) && prints_size(alloc, program) }
+        Err(_) => false,
+    }
 }
 
-/// What is answered to a question.
-fn yes(alloc: Global, holds: bool) -> Result<String, Fail> {
-    Ok(String::from_str(alloc, if holds { "yes" } else { "no" })?)
-}
-
-/// Writes a demo image, and answers whether its size is printed.
-fn image(alloc: Global, shelf: &mut MemoryShelf, name: &str) -> Result<String, Fail> {
-    let words = format!(in alloc; "image {name} image")?;
-    let printed = run(alloc, shelf, &words)?;
-    let size = size(alloc, shelf, "image")?;
-    let wanted = format!(in alloc; "0 bytes {size};")?;
-    yes(alloc, printed == wanted)
-}
-
-/// Answers whether two files have the same bytes.
-fn same(alloc: Global, shelf: &MemoryShelf, names: &str) -> Result<String, Fail> {
-    let (one, other) = names.split_once(' ').ok_or("no other file")?;
-    let one = shelf.contents(one).ok_or("no file")?;
-    yes(alloc, shelf.contents(other) == Some(one))
-}
-
-/// Whether memory is a jump to itself, and zeros from there on.
-fn is_jump(memory: &[u8]) -> bool {
-    match memory.strip_prefix(&[0x6F, 0, 0, 0]) {
-        Some(rest) => rest.iter().all(|byte| *byte == 0),
+/// Whether a file has this text.
+fn reads<P: Program>(alloc: Global, program: &P, name: &str, text: &str) -> bool {
+    match program.contents(name) {
+        Some(bytes) => is_text(alloc, bytes, text),
         None => false,
     }
 }
 
-/// Answers whether a file is 16 MiB of memory with a jump to itself.
-fn jumps(alloc: Global, shelf: &MemoryShelf, name: &str) -> Result<String, Fail> {
-    let memory = shelf.contents(name).ok_or("no file")?;
-    yes(alloc, memory.len() == 16_777_216 && is_jump(memory))
+/// Whether a file has so many bytes; `none` where it isn't there.
+fn has_size<P: Program>(program: &P, name: &str, size: &str) -> bool {
+    match size_of(program, name) {
+        Some(count) => size.parse().ok() == Some(count),
+        None => size == "none",
+    }
 }
 
-/// Makes a step, and answers it.
-fn step(alloc: Global, shelf: &mut MemoryShelf, verb: &str, words: &str) -> Result<String, Fail> {
+/// Whether two files have the same bytes.
+fn are_same<P: Program>(program: &P, names: &str) -> bool {
+    let (one, other) = cut(names);
+    match program.contents(one) {
+        Some(bytes) => program.contents(other) == Some(bytes),
+        None => false,
+    }
+}
+
+/// Whether memory is 16 MiB with a jump to itself, and zeros from there on.
+fn is_jump(memory: &[u8]) -> bool {
+    match memory.strip_prefix(&[0x6F, 0, 0, 0]) {
+        Some(rest) => memory.len() == 16_777_216 && rest.iter().all(|byte| *byte == 0),
+        None => false,
+    }
+}
+
+/// Whether a file is memory with a jump to itself.
+fn jumps<P: Program>(program: &P, name: &str) -> bool {
+    match program.contents(name) {
+        Some(memory) => is_jump(memory),
+        None => false,
+    }
+}
+
+/// Changes the files as a line says.
+fn is_set<P: Program>(alloc: Global, program: &mut P, verb: &str, words: &str) -> bool {
     match verb {
-        "text" => text(alloc, shelf, words),
-        "bytes" => bytes(alloc, shelf, words),
-        "fail" => fail(alloc, shelf, words),
-        "run" => run(alloc, shelf, words),
-        "image" => image(alloc, shelf, words),
-        "read" => read(alloc, shelf, words),
-        "size" => size(alloc, shelf, words),
-        "same" => same(alloc, shelf, words),
-        "jumps" => jumps(alloc, shelf, words),
-        _ => Err("no such step".into()),
+        "text" => is_written(alloc, program, words),
+        "bytes" => is_made(alloc, program, words),
+        "fail" => fails(program, words),
+        _ => false,
     }
 }
 
-/// Makes the step of a line, and asserts its answer.
-fn make(rt: &(impl Abort + AllocGlobal), shelf: &mut MemoryShelf, line: &str) -> Result<(), Fail> {
+/// What is answered to a question; `None` where the line is no question.
+fn asked<P: Program>(alloc: Global, program: &mut P, verb: &str, words: &str) -> Option<bool> {
+    match verb {
+        "image" => Some(is_image(alloc, program, words)),
+        "same" => Some(are_same(program, words)),
+        "jumps" => Some(jumps(program, words)),
+        _ => None,
+    }
+}
+
+/// Makes the step of a line without its answer, or asks its question.
+fn is_yes<P: Program>(alloc: Global, program: &mut P, line: &str, answer: &str) -> bool {
+    let (verb, words) = cut(line);
+    match asked(alloc, program, verb, words) {
+        Some(yes) => yes == (answer == "yes"),
+        None => is_set(alloc, program, verb, words),
+    }
+}
+
+/// Makes the step of a line; says whether it answers what stands there.
+fn is_so<P: Program>(alloc: Global, program: &mut P, line: &str) -> bool {
     let (asked, answer) = line.split_once(" = ").unwrap_or((line, ""));
-    let (verb, words) = asked.split_once(' ').ok_or("no words")?;
-    let answered = step(rt.alloc(), shelf, verb, words)?;
-    assert_eq!(rt; answered.as_str(), answer, "{line}");
-    Ok(())
+    let (verb, words) = cut(asked);
+    match verb {
+        "run" => ends(alloc, program, words, answer),
+        "read" => reads(alloc, program, words, answer),
+        "size" => has_size(program, words, answer),
+        _ => is_yes(alloc, program, asked, answer),
+    }
 }
 
-/// Makes the steps of a text.
-fn make_all(
-    rt: &(impl Abort + AllocGlobal),
-    shelf: &mut MemoryShelf,
-    text: &str,
-) -> Result<(), Fail> {
-    for line in text.lines() {
-        make(rt, shelf, line)?;
+/// Asserts that each line of a script is so.
+fn make_all<R: Abort + AllocGlobal, P: Program>(rt: &R, program: &mut P, script: &str) {
+    for line in script.lines() {
+        assert!(rt; is_so(rt.alloc(), program, line), "{line}");
     }
-    Ok(())
 }
 
 /// Plays a script over the files of a replay.
-fn play(rt: &(impl Abort + AllocGlobal), script: &str) -> Result<(), Fail> {
-    let mut shelf = MemoryShelf::new(rt.alloc());
-    make_all(rt, &mut shelf, FILES)?;
-    make_all(rt, &mut shelf, script)
+fn play<R: Abort + AllocGlobal, P: Program + Drop>(rt: &R, script: &str) {
+    let mut program = P::start(rt.alloc());
+    make_all(rt, &mut program, FILES);
+    make_all(rt, &mut program, script);
 }
 
 /// Three turns and none, and a client's frame of 1,600 bytes, which isn't accepted.
@@ -240,8 +290,8 @@ same none.disk disk = yes
 ";
 
 #[test]
-fn idle_turns_leave_five_files(rt: HostRuntime) -> Result<(), Fail> {
-    play(&rt, IDLE)
+fn idle_turns_leave_five_files(rt: HostRuntime) {
+    play::<_, Memory>(&rt, IDLE);
 }
 
 /// The image's segment has its fifth byte after the end of memory.
@@ -261,9 +311,9 @@ read out.log = P 10 0 0 5 : - 0;
 ";
 
 #[test]
-fn each_status_prints_its_line(rt: HostRuntime) -> Result<(), Fail> {
-    play(&rt, FAULTS)?;
-    play(&rt, WRITE_FAULT)
+fn each_status_prints_its_line(rt: HostRuntime) {
+    play::<_, Memory>(&rt, FAULTS);
+    play::<_, Memory>(&rt, WRITE_FAULT);
 }
 
 /// Options of memory.
@@ -283,8 +333,8 @@ size out.ram = none
 ";
 
 #[test]
-fn memory_has_the_size_that_the_words_say(rt: HostRuntime) -> Result<(), Fail> {
-    play(&rt, SIZES)
+fn memory_has_the_size_that_the_words_say(rt: HostRuntime) {
+    play::<_, Memory>(&rt, SIZES);
 }
 
 /// The second client stream has two bytes after a frame of 60.
@@ -311,8 +361,8 @@ size out.log = none
 ";
 
 #[test]
-fn a_refused_file_leaves_the_others_as_they_are(rt: HostRuntime) -> Result<(), Fail> {
-    play(&rt, REFUSED)
+fn a_refused_file_leaves_the_others_as_they_are(rt: HostRuntime) {
+    play::<_, Memory>(&rt, REFUSED);
 }
 
 /// A failover while a checkpoint is under way: the secondary's turns from the start on are left.
@@ -335,8 +385,8 @@ run splice log = 1 usage;
 ";
 
 #[test]
-fn a_log_is_spliced(rt: HostRuntime) -> Result<(), Fail> {
-    play(&rt, LOGS)
+fn a_log_is_spliced(rt: HostRuntime) {
+    play::<_, Memory>(&rt, LOGS);
 }
 
 /// The last of the images is the jump to itself.
@@ -352,6 +402,6 @@ jumps out.ram = yes
 ";
 
 #[test]
-fn images_are_written_by_their_names_and_mute_runs(rt: HostRuntime) -> Result<(), Fail> {
-    play(&rt, IMAGES)
+fn images_are_written_by_their_names_and_mute_runs(rt: HostRuntime) {
+    play::<_, Memory>(&rt, IMAGES);
 }

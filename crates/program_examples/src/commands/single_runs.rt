@@ -1,7 +1,7 @@
 //! Single runs on one machine: their statuses, and a replay that is made again.
 
 use super::play;
-use std::test::Fail;
+use super::program::Memory;
 
 /// Runs that end well, runs that are cut off at a turn, and files that are refused. The second
 /// client stream has two bytes after a frame of 60.
@@ -39,8 +39,8 @@ size out.ram = none
 ";
 
 #[test]
-fn single_runs_end_by_their_statuses(rt: HostRuntime) -> Result<(), Fail> {
-    play(&rt, ENDS)
+fn single_runs_end_by_their_statuses(rt: HostRuntime) {
+    play::<_, Memory>(&rt, ENDS);
 }
 
 /// Memory is written, and the disk isn't.
@@ -55,8 +55,8 @@ run solo image missing client schedule out = 6 read failed;
 ";
 
 #[test]
-fn a_single_run_is_cut_off_by_a_failing_file(rt: HostRuntime) -> Result<(), Fail> {
-    play(&rt, CUT_OFF)
+fn a_single_run_is_cut_off_by_a_failing_file(rt: HostRuntime) {
+    play::<_, Memory>(&rt, CUT_OFF);
 }
 
 /// A frame of 1,600 bytes, which isn't accepted.
@@ -72,8 +72,8 @@ size out.disk = 0
 ";
 
 #[test]
-fn a_frame_that_is_not_accepted_stops_a_single_run(rt: HostRuntime) -> Result<(), Fail> {
-    play(&rt, LONG_FRAME)
+fn a_frame_that_is_not_accepted_stops_a_single_run(rt: HostRuntime) {
+    play::<_, Memory>(&rt, LONG_FRAME);
 }
 
 /// A replay of three turns, its log's single run, and that run.
@@ -88,6 +88,6 @@ same again.disk out.disk = yes
 ";
 
 #[test]
-fn a_replay_is_made_again_by_its_single_run(rt: HostRuntime) -> Result<(), Fail> {
-    play(&rt, AGAIN)
+fn a_replay_is_made_again_by_its_single_run(rt: HostRuntime) {
+    play::<_, Memory>(&rt, AGAIN);
 }
