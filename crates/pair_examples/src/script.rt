@@ -123,26 +123,24 @@ fn digit(byte: u8) -> Option<u8> {
     }
 }
 
-/// The byte of two hexadecimal digits.
-fn byte(high: u8, low: u8) -> Option<u8> {
-    Some(digit(high)? << 4 | digit(low)?)
-}
-
 /// Appends the bytes of hexadecimal digits.
 fn put_digits(word: &str, out: &mut Vec<u8>) -> bool {
-    let mut rest = word.as_bytes();
-    while let [high, low, left @ ..] = rest {
-        match byte(*high, *low) {
-            Some(byte) => {
-                if out.push(byte).is_err() {
+    let mut first = None;
+    for byte in word.as_bytes() {
+        let Some(low) = digit(*byte) else {
+            return false;
+        };
+        first = match first {
+            None => Some(low),
+            Some(high) => {
+                if out.push(high << 4 | low).is_err() {
                     return false;
                 }
+                None
             }
-            None => return false,
-        }
-        rest = left;
+        };
     }
-    rest.is_empty()
+    first.is_none()
 }
 
 /// Appends so many zeros.
