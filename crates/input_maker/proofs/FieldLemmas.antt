@@ -1,8 +1,9 @@
 -- What a client's frame is parsed as: a segment to the guest, with the fields of its step.
-use Rattle.std.proofs.Common.{◌≡◌, ℕ, ◌+◌, ◌-◌, ◌*◌, ◌/◌, ◌%◌, ◌<◌, ◌≤◌, ◌==◌, ◌||◌, Bool, true, false, if◌then◌else◌, replicate, zero, suc, List, [], ◌∷◌, ◌++◌, Some, fold, length, refl, ap, sym, ◌∙◌, arith}
+use Rattle.std.proofs.Common.{◌≡◌, ℕ, ◌+◌, ◌-◌, ◌*◌, ◌/◌, ◌%◌, ◌<◌, ◌≤◌, ◌==◌, ◌||◌, Bool, true, false, if◌then◌else◌, replicate, zero, suc, List, [], ◌∷◌, ◌++◌, Some, fold, length, map, refl, ap, sym, ◌∙◌, arith}
 use Rattle.std.proofs.lemmas.Bool.Decides.{nat_tests}
 use Rattle.std.proofs.lemmas.List.{take_all}
-use Rattle.std.specs.List.{slice_range}
+use Rattle.std.specs.Int.{w32, to_be_bytes}
+use Rattle.std.specs.List.{count_by, range_with_len, slice_range}
 use Rattle.inet_frame.specs.Counted.{tcp_in}
 use Rattle.inet_frame.specs.Fields.{TcpFields}
 use Rattle.inet_frame.specs.Frame.{IsSegment, fields_in}
@@ -15,9 +16,11 @@ use Rattle.inet_build.proofs.SegmentLemmas.{segment_is_bytes, segment_parses}
 use Rattle.inet_build.specs.declared.fields.Segment.{Segment}
 use Rattle.frame_mirror.specs.Accepted.{is_accepted, is_for_guest}
 use Rattle.shared_definitions.specs.Bytes.{AreBytes}
-use Rattle.shared_definitions.proofs.ByteLemmas.{AreBytes-append, AreBytes-cons, AreBytes-nil, AreBytes-range, bytes_from}
+use Rattle.shared_definitions.proofs.ByteLemmas.{AreBytes-append, AreBytes-cons, AreBytes-nil, AreBytes-range, bytes_from, four_bytes}
 use Rattle.shared_definitions.proofs.FactLemmas.{◌&◌}
+use Rattle.sock_link.specs.Stream.{record_of, stream_of}
 use Rattle.input_maker.specs.Client.{client_fields, client_frame, client_mac, exchange_ends, flags_at, payload_at, segment_at, swap_parts}
+use Rattle.input_maker.specs.Made.{is_client, made_frames, made_lines}
 use Rattle.input_maker.proofs.FrameLemmas.{Parts, built, client_bytes, guest_frame, length-payload, parts_of, rest_with, sent_frame}
 
 -- ---- a step can be built
@@ -84,6 +87,20 @@ bytes_client index =
     let s = segment_at (index / 8) (index % 8) in
     bytes_exchanged (segment_bytes s (payload_at (index % 8)))
     (segment_is_bytes s (payload_at (index % 8)) (buildable (index / 8) (index % 8) (omega arith)))
+
+bytes_record : (frame : List ℕ) → AreBytes frame → AreBytes (record_of frame)
+unfolding record_of
+bytes_record frame bytes = AreBytes-append (to_be_bytes w32 (length frame)) frame (four_bytes (length frame)) bytes
+
+bytes_frames : (from count : ℕ) → AreBytes (stream_of (map client_frame (range_with_len from count)))
+bytes_frames from zero = AreBytes-nil
+bytes_frames from (suc count) =
+    AreBytes-append (record_of (client_frame from)) (stream_of (map client_frame (range_with_len (from + 1) count)))
+    (bytes_record (client_frame from) (bytes_client from)) (bytes_frames (from + 1) count)
+
+pub bytes_stream : (number turns : ℕ) → AreBytes (stream_of (made_frames number turns))
+unfolding made_frames
+bytes_stream number turns = bytes_frames 0 (count_by is_client (made_lines number turns))
 
 -- ---- sums
 

@@ -3,3 +3,4 @@ pub mod MadeLemmas
 pub mod ScheduleLemmas
 pub mod FrameLemmas
 pub mod FieldLemmas
+pub mod TextLemmas

@@ -73,20 +73,20 @@ plain_ask = record {
 -- ---- all of them
 
 module _ {A : Type 0} (P : A → Type 0) where
-  all_then : (xs ys : List A) → AllByRecursion P xs → AllByRecursion P ys → AllByRecursion P (xs ++ ys)
+  pub all_then : (xs ys : List A) → AllByRecursion P xs → AllByRecursion P ys → AllByRecursion P (xs ++ ys)
   all_then [] ys x y = y
   all_then (a ∷ xs) ys x y = (x.0, all_then xs ys x.1 y)
 
-  all_same : (n : ℕ) (a : A) → P a → AllByRecursion P (replicate n a)
+  pub all_same : (n : ℕ) (a : A) → P a → AllByRecursion P (replicate n a)
   all_same zero a p = tt
   all_same (suc n) a p = (p, all_same n a p)
 
-  all_each : {B : Type 0} (f : B → List A) → ((b : B) → AllByRecursion P (f b)) → (bs : List B)
+  pub all_each : {B : Type 0} (f : B → List A) → ((b : B) → AllByRecursion P (f b)) → (bs : List B)
       → AllByRecursion P (flat_map f bs)
   all_each f each [] = tt
   all_each f each (b ∷ bs) = all_then (f b) (flat_map f bs) (each b) (all_each f each bs)
 
-  all_if : (b : Bool) (a : A) → P a → AllByRecursion P (if b then a ∷ [] else [])
+  pub all_if : (b : Bool) (a : A) → P a → AllByRecursion P (if b then a ∷ [] else [])
   all_if true a p = (p, tt)
   all_if false a p = tt
 

@@ -14,6 +14,12 @@ MakesSchedules =
     (number turns : ℕ)
     → IsSchedule (made_lines number turns) (schedule_text (made_lines number turns))
 
+-- the text is bytes, and the stream too
+abbrev pub MakesBytes : Type 0
+MakesBytes =
+    (number turns : ℕ) → AreBytes (schedule_text (made_lines number turns))
+    × AreBytes (stream_of (made_frames number turns))
+
 -- its stream is whole records, of these frames
 abbrev pub MakesStreams : Type 0
 MakesStreams =
