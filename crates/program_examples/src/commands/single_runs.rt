@@ -46,7 +46,7 @@ fn single_runs_end_by_their_statuses(rt: HostRuntime) {
 /// Memory is written, and the disk isn't.
 const CUT_OFF: &str = "\
 text schedule T 10 - 0 5;
-fail 10
+fail 4104
 run solo image disk client schedule out = 7 write failed;
 jumps out.ram = yes
 size out.disk = 0
