@@ -1,9 +1,9 @@
 -- Steps are counted one after the other.
 use Rattle.std.proofs.Common.{◌≡◌, ℕ, ◌+◌, List, [], ◌∷◌, ◌++◌, length, refl, sym, ap, ◌∙◌, arith}
-use Rattle.std.specs.Prelude.{map, sum_by}
+use Rattle.std.specs.Prelude.{sum_by}
 use Rattle.std.proofs.lemmas.List.{length-append, length-map}
 use Rattle.std.proofs.lemmas.List.Sums.{sum_by-append, sum_by-cons}
-use Rattle.settle_rules.specs.Release.{Released, released_frame}
+use Rattle.settle_rules.specs.Release.{released_frame}
 use Rattle.replay_log.specs.declared.records.Record.{Record}
 use Rattle.command_plans.specs.Replay.{captures_by, count}
 use Rattle.command_plans.specs.Steps.{counts_line}

@@ -1,10 +1,10 @@
 -- A log grows by a step with each line; no line is a second stop or a false report; and the survivor is in the state
 -- that the log says.
-use Rattle.std.proofs.Common.{◌≡◌, ℕ, ◌+◌, ◌<◌, Bool, true, false, ◌||◌, List, [], ◌∷◌, ◌++◌, Option, None, Some, append-nil, flat_map, drop, get_or, length, take, refl, sym, ap, subst, ◌∙◌, if◌then◌else◌}
+use Rattle.std.proofs.Common.{◌≡◌, ℕ, ◌+◌, ◌<◌, Bool, true, false, List, [], ◌∷◌, ◌++◌, Option, None, Some, append-nil, flat_map, drop, get_or, length, take, refl, sym, ap, subst, ◌∙◌, if◌then◌else◌}
 use Rattle.std.specs.Prelude.{sum_by}
 use Rattle.std.proofs.lemmas.List.{drop_more, take-append-drop}
 use Rattle.std.proofs.lemmas.List.Concat.{flat_map-append}
-use Rattle.state_wire.specs.Guest.{GuestState, Kind}
+use Rattle.state_wire.specs.Guest.{Kind}
 use Rattle.replay_log.specs.declared.lines.Line.{Line}
 use Rattle.replay_log.specs.declared.lines.Line.TheVariants.{Primary, Secondary, Client, ToSecondary, ToPrimary, StopPrimary, StopSecondary, Report, Ask}
 use Rattle.splice_run.specs.Log.{has_primary_stop}
@@ -28,7 +28,7 @@ use Rattle.pair_history.proofs.LogLemmas.{past_then}
 use Rattle.pair_theorem.specs.Events.{outcome_of}
 use Rattle.pair_theorem.specs.History.{entries, pair_log, past_at, past_from, steps_from}
 use Rattle.pair_theorem.specs.LogParts.{nodes_at}
-use Rattle.pair_theorem.specs.Past.{Past, Start, Step, first_past, is_primary_stop}
+use Rattle.pair_theorem.specs.Past.{Past, Start, Step, is_primary_stop}
 use Rattle.pair_theorem.proofs.EachHistory.{Fits, Reached, begins, goes, is_stopped}
 use Rattle.pair_theorem.proofs.EachLog.{past_is}
 use Rattle.pair_theorem.proofs.HistoryLemmas.{pair_log-append}
@@ -189,7 +189,7 @@ module _ (a : Start) (lines : List Line) (w : Pair) (h : StandsAfter a lines w) 
 pub record GoesOnSoFar (a : Start) (lines : List Line) (counts : Counts) (w : Pair) : Type 0 where
   pub stands : StandsAfter a lines w
   pub reached : HasReached a lines
-  pub counts : IsCounted (pair_log a lines) counts
+  pub counted : IsCounted (pair_log a lines) counts
 
 pub so_far_none : (a : Start) (w : Pair) (counts : Counts) → StandsForStart a w → counts.lines ≡ 0
     → counts.released ≡ 0 → counts.captured ≡ 0 → GoesOnSoFar a [] counts w
@@ -197,7 +197,7 @@ unfolding pair_log steps_from
 so_far_none a w counts stands lines released captured = record {
   stands = stands;
   reached = reached_none a;
-  counts = counted_none counts lines released captured;
+  counted = counted_none counts lines released captured;
 }
 
 pub so_far_more : (a : Start) (lines : List Line) (x : Line) (old new : Counts) (w v : Pair) (made : HeldStep)
@@ -205,15 +205,15 @@ pub so_far_more : (a : Start) (lines : List Line) (x : Line) (old new : Counts) 
     → new.released ≡ count (old.released + length made.released)
     → new.captured ≡ count (old.captured + count (sum_by captures_by made.entry.marks))
     → GoesOnSoFar a (lines ++ x ∷ []) new v
-so_far_more a lines x old new w v made h good next counted released captured = record {
+so_far_more a lines x old new w v made h good next more released captured = record {
   stands = next.stands;
   reached = reached_more a lines x h.reached (fits a.kind a.stream (past_after a lines) w h.stands x good);
-  counts = subst (λ (steps : List Step). IsCounted steps new) (sym (log_more a lines x))
-      (counted_more (pair_log a lines) (step_after a lines x) made old new h.counts next.tells counted released
+  counted = subst (λ (steps : List Step). IsCounted steps new) (sym (log_more a lines x))
+      (counted_more (pair_log a lines) (step_after a lines x) made old new h.counted next.tells more released
       captured);
 }
 
 pub so_far_all : (a : Start) (lines : List Line) (counts : Counts) (w : Pair) → GoesOnSoFar a lines counts w
     → HasRun a lines counts w
 so_far_all a lines counts w h =
-    record { counts = h.counts; state = state_survives a lines w h.stands h.reached }
+    record { counted = h.counted; state = state_survives a lines w h.stands h.reached }

@@ -1,5 +1,5 @@
 -- Both machines are in one state, and no line of a schedule is refused.
-use Rattle.std.proofs.Common.{◌≡◌, ℕ, List, All, Result, Ok, Err, ap, refl, sym, ◌∙◌}
+use Rattle.std.proofs.Common.{◌≡◌, ℕ, List, All, Result, Ok, Err, ap, refl, subst, sym, ◌∙◌}
 use Rattle.command_inputs.specs.Client.{read_client}
 use Rattle.command_inputs.specs.Machine.{read_machine}
 use Rattle.command_inputs.specs.Reading.{and_then}
@@ -12,6 +12,8 @@ use Rattle.pair_core.specs.Steps.{HasLimits}
 use Rattle.replay_log.specs.declared.lines.Line.{Line}
 use Rattle.state_wire.specs.Guest.{Meaning}
 use Rattle.command_plans.specs.Replay.{AreEvents}
+use Rattle.pair_history.proofs.LogLemmas.{begins_at_boot}
+use Rattle.pair_world.specs.Running.{StandsForStart, start_of}
 use Rattle.replay_plan.specs.ReplayPlan.{pair_with}
 use Rattle.replay_plan.proofs.LimitLemmas.{lines_in_limits}
 use Rattle.replay_plan.proofs.OrderLemmas.{schedule_is_events}
@@ -63,3 +65,10 @@ pub pair_same : (w : Pair) (first second : Meaning) (frames : List (List ℕ)) �
     → w ≡ record (new_pair first second) { frames = frames } → w ≡ pair_with first frames
 pair_same w first second frames same is =
     is ∙ ap (λ (m : Meaning). record (new_pair first m) { frames = frames }) same
+
+-- and it stands for their start
+pub stands_there : (w : Pair) (first second : Meaning) (frames : List (List ℕ)) → second ≡ first
+    → w ≡ record (new_pair first second) { frames = frames } → StandsForStart (start_of first first frames) w
+stands_there w first second frames same is =
+    subst (λ (v : Pair). StandsForStart (start_of first first frames) v) (sym (pair_same w first second frames same is))
+    (begins_at_boot first.kind frames first.state first.turned first.turned)

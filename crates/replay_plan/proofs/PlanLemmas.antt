@@ -1,5 +1,5 @@
 -- From the four texts of a replay to the plan of its log.
-use Rattle.std.proofs.Common.{◌≡◌, ℕ, Bool, true, List, [], Result, Ok, Err, IfErr, IfOk, OnOk, String, Vec, ap, get_or, length, refl, string_bytes, sym, ◌∙◌, if◌then◌else◌}
+use Rattle.std.proofs.Common.{◌≡◌, ℕ, Bool, true, List, [], Result, Ok, Err, IfErr, IfOk, OnOk, String, Vec, ap, get_or, length, refl, string_bytes, subst, sym, ◌∙◌, if◌then◌else◌}
 use Rattle.std.specs.List.{list_all}
 use Rattle.std.specs.declared.alloc.Global.{Global}
 use Rattle.colo_base.specs.Shelf.{ShelfState}
@@ -13,6 +13,7 @@ use Rattle.file_steps.specs.Plans.{Refusal, done, waits}
 use Rattle.file_steps.specs.ReadBytes.{texts_of}
 use Rattle.file_steps.specs.Steps.{FailsToWrite, Writes}
 use Rattle.replay_log.specs.declared.lines.Line.{Line}
+use Rattle.shared_definitions.specs.Bytes.{AreBytes}
 use Rattle.command_plans.specs.Planning.{PlanCompletes, PlanFails, of_four, refusal_plan}
 use Rattle.command_plans.proofs.CarryLemmas.{of_four_is, steps_fail}
 use Rattle.pair_core.specs.Pair.{Pair}
@@ -23,6 +24,7 @@ use Rattle.pair_world.specs.Running.{StandsForStart}
 use Rattle.replay_plan.specs.LogPlan.{log_line, log_plan, log_steps}
 use Rattle.replay_plan.specs.ReplayPlan.{are_bytes, replay_plan, replay_texts, start_with}
 use Rattle.replay_plan.specs.Running.{OfItsStart}
+use Rattle.replay_plan.proofs.ByteTests.{texts_are}
 
 -- ---- what is read
 
@@ -48,14 +50,27 @@ module _ (mib : ℕ) (image disk client lines : List ℕ) where
   replay_whole start schedule s e = rw (s, e) refl
 
 -- the plan of four files of bytes
-pub replay_is : (mib : ℕ) (files : List (Vec ℕ Global)) (a b c d : Vec ℕ Global) → length files ≡ 4
+replay_is : (mib : ℕ) (files : List (Vec ℕ Global)) (a b c d : Vec ℕ Global) → length files ≡ 4
     → a ≡ get_or files 0 a → b ≡ get_or files 1 b → c ≡ get_or files 2 c → d ≡ get_or files 3 d
     → (image disk client lines : List ℕ) → image ≡ a.items → disk ≡ b.items → client ≡ c.items → lines ≡ d.items
     → list_all are_bytes (texts_of files) ≡ true
     → replay_texts mib (texts_of files) ≡ replay_plan mib image disk client lines
 replay_is mib files a b c d all at0 at1 at2 at3 image disk client lines e0 e1 e2 e3 bytes =
-    ap (λ (t : Bool). if t then of_four (replay_plan mib) (texts_of files) else record { steps = []; end = waits }) bytes
+    ap (λ (t : Bool). if t then of_four (replay_plan mib) (texts_of files) else record { steps = []; end = waits })
+    bytes
     ∙ of_four_is (replay_plan mib) files a b c d all at0 at1 at2 at3 image disk client lines e0 e1 e2 e3
+
+-- the same where the files were looked at again
+pub plan_is : (mib : ℕ) (files : List (Vec ℕ Global)) (a b c d : Vec ℕ Global) → length files ≡ 4
+    → a ≡ get_or files 0 a → b ≡ get_or files 1 b → c ≡ get_or files 2 c → d ≡ get_or files 3 d
+    → (i j k l : List ℕ) → i ≡ a.items → j ≡ b.items → k ≡ c.items → l ≡ d.items
+    → AreBytes i → AreBytes j → AreBytes k → AreBytes l
+    → (image disk client lines : List ℕ) → image ≡ a.items → disk ≡ b.items → client ≡ c.items → lines ≡ d.items
+    → replay_texts mib (texts_of files) ≡ replay_plan mib image disk client lines
+plan_is mib files a b c d all at0 at1 at2 at3 i j k l f0 f1 f2 f3 h0 h1 h2 h3 image disk client lines e0 e1 e2 e3 =
+    replay_is mib files a b c d all at0 at1 at2 at3 image disk client lines e0 e1 e2 e3
+    (texts_are files a b c d all at0 at1 at2 at3 (subst AreBytes f0 h0) (subst AreBytes f1 h1) (subst AreBytes f2 h2)
+    (subst AreBytes f3 h3))
 
 -- ---- the run
 

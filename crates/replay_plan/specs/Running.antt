@@ -1,6 +1,5 @@
 -- A pair that runs by a schedule, and the log of whatever start it stands for.
 use Rattle.std.specs.Prelude.{◌≡◌, List, length, sum_by}
-use Rattle.state_wire.specs.Guest.{GuestState}
 use Rattle.replay_log.specs.declared.lines.Line.{Line}
 use Rattle.command_plans.specs.Replay.{count, survivor}
 use Rattle.command_plans.specs.declared.replay.Counts.{Counts}
@@ -35,5 +34,5 @@ pub record IsCounted (steps : List Step) (counts : Counts) : Type 0 where
 
 -- the log of these lines was made: its steps are counted, and the survivor is in its state
 pub record HasRun (a : Start) (lines : List Line) (counts : Counts) (w : Pair) : Type 0 where
-  pub counts : IsCounted (pair_log a lines) counts
+  pub counted : IsCounted (pair_log a lines) counts
   pub state : (survivor w).state ≡ survivor_of a (pair_log a lines)

@@ -10,17 +10,18 @@ ghost use Rattle.guest_machine.specs.Guest.{machine_meaning};
 ghost use Rattle.pair_core.specs.Steps.{HasLimits};
 ghost use Rattle.pair_theorem.specs.Starts.{IsStart};
 ghost use Rattle.pair_world.specs.Running.{start_of};
+ghost use Rattle.shared_definitions.specs.Bytes.{AreBytes};
 ghost use Rattle.replay_plan.specs.LogPlan.{log_plan};
 ghost use Rattle.replay_plan.specs.ReplayPlan.{pair_with, replay_texts, start_with};
 
 use crate::log::run_log;
-use colo_base::{Frames, Shelf};
+use colo_base::{Frames, NoMemory, Shelf};
 use command_inputs::{
     Started, read_machine, read_schedule, read_start, reads_clients, reads_machines,
 };
 use file_steps::Fault;
 use guest_starts::machines_start;
-use pair_world::start;
+use pair_core::Pair;
 use replay_log::Line;
 use state_wire::Guest;
 use std::alloc::Global;
@@ -47,9 +48,16 @@ fn run_both<S: Shelf, G: Guest + Drop>(
         (log_plan (start_of (G.meaning first) (G.meaning first) frames) lines.now)
         (S.state shelf.old) (S.state shelf.new)) }
 {
-    let mut pair = start(alloc, first, second, frames)?;
-    run_log(alloc, shelf, out, &mut pair, lines)
+    match Pair::with_frames(alloc, first, second, frames) {
+        Ok(mut pair) => run_log(alloc, shelf, out, &mut pair, lines),
+        Err(NoMemory) => Err(Fault::NoMemory),
+    }
 }
+
+/// What a slice holds are bytes.
+fn are_bytes(bytes: &[u8])
+    ensures { AreBytes bytes.now }
+{}
 
 /// The machine that the image boots over the disk, and the frames of the client stream: two such
 /// machines are a start of the theorem.
@@ -97,6 +105,10 @@ pub fn run_replay<S: Shelf>(
     let [image, disk, client, schedule] = files else {
         unreachable!()
     };
+    are_bytes(image);
+    are_bytes(disk);
+    are_bytes(client);
+    are_bytes(schedule);
     let started = read_boot(alloc, mib, image, disk, client)?;
     let lines = read_schedule(alloc, schedule)?;
     let second = read_machine(alloc, mib, image, disk)?;

@@ -42,6 +42,7 @@ pub loop-line-init : goal.loop-line-init
 loop-line-init g c = record {
   after = refl;
   steps = c.requires.fresh;
+  lines = refl;
   so_far = λ a start stands. so_far_none a (pair_of g.G.Guest.meaning c.args.pair.now) _ stands refl refl refl;
   written = λ a start stands. written_none c.args.out.now a (g.S.Shelf.state c.args.shelf.now);
 }
@@ -66,6 +67,7 @@ loop-line-preserved g c =
       after = c.in_ok-made.ensures.after
           ∙ (ap (λ q. (event_of q line).after) c.loop-line.invariant.after ∙ sym (after_more w lines k none within));
       steps = c.in_ok-made.ensures.steps ∙ ap (λ n. n + 1) c.loop-line.invariant.steps;
+      lines = c.count_step-counts.ensures.lines ∙ ap (λ n. n + 1) c.loop-line.invariant.lines;
       so_far = λ a start stands.
           let h = c.loop-line.invariant.so_far a start stands in
           subst (λ (xs : List Line). GoesOnSoFar a xs c.count_step-counts.result next)

@@ -14,6 +14,7 @@ invariant-loop-line g l =
     let w = pair_of g.G.Guest.meaning l.initial.pair in record {
       after : pair_of g.G.Guest.meaning l.pair ≡ after_lines w (take l.line-index l.lines);
       steps : l.pair.steps ≡ l.line-index;
+      lines : l.counts.lines ≡ l.line-index;
       so_far : OfItsStart w (λ a. GoesOnSoFar a (take l.line-index l.lines) l.counts
           (pair_of g.G.Guest.meaning l.pair));
       written : OfItsStart w (λ a. Writes l.out (flat_map writes_of (pair_log a (take l.line-index l.lines)))

@@ -7,7 +7,6 @@ use Rattle.file_steps.proofs.WriteLemmas.{write_fails_front, write_fails_then, w
 use Rattle.state_wire.specs.Guest.{GuestState}
 use Rattle.command_plans.specs.Replay.{replay_files, state_steps}
 use Rattle.command_plans.proofs.ReplayLemmas.{survivor_same}
-use Rattle.pair_core.specs.Pair.{pair_of}
 use Rattle.pair_theorem.specs.History.{pair_log}
 use Rattle.pair_theorem.specs.Past.{Start}
 use Rattle.replay_log.specs.declared.lines.Line.{Line}
@@ -91,7 +90,7 @@ pub returns-clause-line : goal.returns-clause-line
 returns-clause-line g c a start stands =
     c.in_ok-line.ensures
     ∙ line_same (pair_log a c.args.lines.now) c.in_ok-counts.counts
-    (c.in_ok-counts.ensures.run a start stands).counts
+    (c.in_ok-counts.ensures.run a start stands).counted
 
 pub returns-clause-done : goal.returns-clause-done
 unfolding log_steps
