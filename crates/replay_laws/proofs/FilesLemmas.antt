@@ -1,5 +1,5 @@
 -- What the files of a replay hold.
-use Rattle.std.proofs.Common.{◌≡◌, ℕ, List, [], ◌∷◌, ◌++◌, Some, codes, flat_map, map, refl, sym, ap, ◌∙◌, append_assoc}
+use Rattle.std.proofs.Common.{◌≡◌, ℕ, List, [], ◌∷◌, ◌++◌, Some, codes, flat_map, map, refl, ap, ◌∙◌}
 use Rattle.std.specs.List.{concat}
 use Rattle.std.proofs.lemmas.List.{append-nil}
 use Rattle.settle_rules.specs.Release.{Released, released_frame}
@@ -7,11 +7,9 @@ use Rattle.command_plans.specs.Replay.{replay_files, state_steps}
 use Rattle.file_steps.specs.Steps as file
 use Rattle.file_steps.specs.Steps.{Files, after_steps, creates}
 use Rattle.replay_log.specs.Texts.{record_text}
-use Rattle.replay_log.specs.declared.records.Record.{Record}
 use Rattle.sock_link.specs.Stream.{record_of, stream_of}
 use Rattle.state_wire.specs.Guest.{GuestState}
-use Rattle.pair_theorem.specs.History.{entries}
-use Rattle.pair_theorem.specs.LogParts.{delivered_bytes, files_of, frame_record, log_bytes, nodes_at, released_bytes, wire_bytes}
+use Rattle.pair_theorem.specs.LogParts.{delivered_bytes, files_of, frame_record, log_bytes, released_bytes, wire_bytes}
 use Rattle.pair_theorem.specs.Past.{Start, Step}
 use Rattle.plan_laws.proofs.FilesLemmas.{added_disk, added_event, added_other, added_ram, adds, none_event, none_of_each, none_state}
 use Rattle.plan_laws.proofs.LeaveLemmas.{CreatesNone, after_creates, appended, appended_each, appended_then, none_each, none_then}

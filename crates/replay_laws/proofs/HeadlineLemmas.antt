@@ -1,13 +1,11 @@
 -- From what is promised of a call to the theorem of the pair that it ran.
-use Rattle.std.proofs.Common.{◌≡◌, ℕ, ◌==◌, ◌⊎◌, inl, inr, Bool, true, false, ◌&&◌, IsTrue, MatchBool, List, [], ◌∷◌, ◌++◌, Option, Some, None, Result, Ok, Err, ⊥, refl, sym, ap, subst, ◌∙◌, if◌then◌else◌}
+use Rattle.std.proofs.Common.{◌≡◌, ℕ, ◌==◌, ◌⊎◌, inl, inr, Bool, true, false, IsTrue, MatchBool, List, [], ◌∷◌, ◌++◌, Option, Some, None, Result, Ok, Err, refl, sym, ap, subst, ◌∙◌, if◌then◌else◌}
 use Rattle.std.specs.List.{list_all}
 use Rattle.std.specs.Prelude.{option_map}
 use Rattle.std.proofs.lemmas.Bool.{and_parts}
 use Rattle.std.proofs.lemmas.List.{append-nil}
 use Rattle.colo_base.specs.Shelf.{ShelfState}
 use Rattle.colo_base.specs.Sink.{Puts}
-use Rattle.command_inputs.specs.Client.{read_client}
-use Rattle.command_inputs.specs.Machine.{read_machine}
 use Rattle.command_inputs.specs.Start as inputs
 use Rattle.command_inputs.specs.Start.{read_start}
 use Rattle.command_inputs.specs.Texts.{read_schedule}
@@ -15,9 +13,9 @@ use Rattle.command_inputs.proofs.ClientLemmas.{clients_lem}
 use Rattle.command_inputs.proofs.MachineLemmas.{machines_lem}
 use Rattle.command_inputs.proofs.StartLemmas.{start_whole}
 use Rattle.command_inputs.proofs.TextLemmas.{schedules_lem}
-use Rattle.command_tasks.specs.Tasks.{read_task, replay_task, run_reads, task_of}
-use Rattle.command_tasks.specs.Words.{Command, RunWords, read_words, replay_command}
-use Rattle.file_steps.specs.Ending.{Call, Ends, FailedBy, IsCarriedOut, IsStopped, LineFailed, Means, NoTask, OfTask, Succeeded}
+use Rattle.command_tasks.specs.Tasks.{replay_task, run_reads, task_of}
+use Rattle.command_tasks.specs.Words.{Command, RunWords}
+use Rattle.file_steps.specs.Ending.{Call, FailedBy, IsCarriedOut, IsStopped, LineFailed, Means, NoTask, OfTask, Succeeded}
 use Rattle.file_steps.specs.Plans.{End, Plan, Refusal, Task, done, refused, waits}
 use Rattle.file_steps.specs.Reading.{AreRead, FailsToRead, KeepsFiles}
 use Rattle.file_steps.specs.Status.{refusal_of}
@@ -30,8 +28,7 @@ use Rattle.replay_log.specs.declared.lines.Line.{Line}
 use Rattle.shared_definitions.specs.Bytes.{AreBytes}
 use Rattle.state_wire.specs.Guest.{Meaning}
 use Rattle.pair_theorem.specs.History.{pair_log}
-use Rattle.pair_theorem.specs.LogParts.{OutFiles, nodes_at}
-use Rattle.pair_theorem.specs.Past.{Start}
+use Rattle.pair_theorem.specs.LogParts.{OutFiles}
 use Rattle.replay_plan.specs.LogPlan.{log_line, log_plan, log_steps}
 use Rattle.replay_plan.specs.ReplayPlan.{are_bytes, replay_plan, replay_texts, start_with}
 use Rattle.replay_plan.proofs.ByteTests.{bytes_there}

@@ -8,7 +8,6 @@ use Rattle.replay_log.specs.Cases.{are_in_order, before_of, begins_with, is_earl
 use Rattle.replay_log.specs.Items.{item_words}
 use Rattle.replay_log.specs.Texts.{IsSchedule}
 use Rattle.replay_log.specs.declared.items.Item.TheVariants as item
-use Rattle.replay_log.specs.declared.keywords.Keyword.{Keyword}
 use Rattle.replay_log.specs.declared.keywords.Keyword.TheVariants.{Report as report_word, Stop as stop_word}
 use Rattle.replay_log.specs.declared.lines.Line.{Line}
 use Rattle.replay_log.specs.declared.lines.Line.TheVariants.{Primary, Secondary, Client, ToSecondary, ToPrimary, StopPrimary, StopSecondary, Report, Ask}
