@@ -1,0 +1,9 @@
+pub mod EventNews
+pub mod HadEvents
+pub mod HadLemmas
+pub mod LogLemmas
+pub mod NewsLemmas
+pub mod SettleNews
+pub mod SinceLogs
+pub mod SurviveNews
+pub mod SurvivorLogs
