@@ -32,13 +32,13 @@ use Rattle.pair_theorem.specs.LogParts.{OutFiles}
 use Rattle.replay_plan.specs.LogPlan.{log_line, log_plan, log_steps}
 use Rattle.replay_plan.specs.ReplayPlan.{are_bytes, replay_plan, replay_texts, start_with}
 use Rattle.replay_plan.proofs.ByteTests.{bytes_there}
+use Rattle.theorem_whole.proofs.WholeLemmas.{theorem_holds}
 use Rattle.replay_plan.proofs.PlanLemmas.{replay_whole}
 use Rattle.replay_plan.proofs.StartLemmas.{read_back, starts_there}
 use Rattle.replay_laws.specs.Files.{HasFiles}
 use Rattle.replay_laws.specs.Headline.{AreGiven, EachReplayIsOnePair, RanOnePair, WroteFront, files_before, start_at}
 use Rattle.replay_laws.proofs.FilesLemmas.{log_leaves}
 use Rattle.replay_laws.proofs.StopLemmas.{schedule_stops_once}
-use Rattle.replay_laws.proofs.WholeLemmas.{theorem_holds}
 
 -- ---- the plan of texts that ends with a line
 
@@ -280,7 +280,7 @@ module _ (machines : MachinesStart) (c : RunWords) (call : Call) (is : call.task
         line = subst (λ (text : List ℕ). Puts call.sink_before call.sink_after text)
             (same_end s.line (log_line (pair_log a l.lines))
             (sym s.work.holds.0 ∙ ap (λ (plan : Plan). plan.end) l.plan)) s.put;
-        theorem = λ numbers. theorem_holds a l.lines start one numbers;
+        theorem = theorem_holds a l.lines start;
       }
 
   -- at any status

@@ -1,5 +1,4 @@
 mod FilesLemmas
 mod EventLemmas
 mod StopLemmas
-mod WholeLemmas
 mod HeadlineLemmas

@@ -1,7 +1,7 @@
 -- THE HEADLINE. What a replay leaves is what the theorem of the pair determines for two machines
 -- that IMAGE boots over DISK, the frames of CLIENT and the lines of SCHEDULE; and of that the
 -- theorem holds.
-use Rattle.std.specs.Prelude.{◌≡◌, ℕ, true, IsTrue, List, [], ◌∷◌, Some}
+use Rattle.std.specs.Prelude.{◌≡◌, ℕ, IsTrue, List, [], ◌∷◌, Some}
 use Rattle.command_inputs.specs.Machine.{IsBooted}
 use Rattle.command_tasks.specs.Tasks.{read_task, run_reads}
 use Rattle.command_tasks.specs.Words.{RunWords, read_words, replay_command}
@@ -15,9 +15,7 @@ use Rattle.replay_log.specs.Texts.{IsSchedule}
 use Rattle.replay_log.specs.declared.lines.Line.{Line}
 use Rattle.sock_link.specs.Stream.{IsSplit}
 use Rattle.state_wire.specs.Guest.{Meaning}
-use Rattle.pair_theorem.specs.FrameParts.{NumbersPart}
-use Rattle.splice_run.specs.Log.{has_primary_stop}
-use Rattle.pair_theorem.specs.History.{entries, pair_log}
+use Rattle.pair_theorem.specs.History.{pair_log}
 use Rattle.pair_theorem.specs.Log.{HasOneStop}
 use Rattle.pair_theorem.specs.LogParts.{files_of, nodes_at}
 use Rattle.pair_theorem.specs.Past.{Start}
@@ -62,11 +60,6 @@ TheoremOf a lines =
     let nodes = nodes_at a steps in
     PairTheorem a lines steps nodes (files_of steps nodes)
 
--- where the primary was stopped one of the nine parts, Numbers, is taken as it comes
-abbrev pub KeepsNumbers : Start → List Line → Type 0
-KeepsNumbers a lines =
-    has_primary_stop (entries (pair_log a lines)) ≡ true → NumbersPart a (pair_log a lines)
-
 -- The five files hold the log that start and schedule determine, what it released and delivered,
 -- and memory and disk of the guest that survives; its counts were printed; at most one node
 -- stopped; and of these the theorem holds.
@@ -82,8 +75,7 @@ pub record RanOnePair (c : RunWords) (call : Call) : Type 0 where
       (nodes_at (start_at machine frames) (pair_log (start_at machine frames) lines)))
   pub line : Puts call.sink_before call.sink_after
       (log_line (pair_log (start_at machine frames) lines))
-  pub theorem : KeepsNumbers (start_at machine frames) lines
-      → TheoremOf (start_at machine frames) lines
+  pub theorem : TheoremOf (start_at machine frames) lines
 
 -- ---- any status
 

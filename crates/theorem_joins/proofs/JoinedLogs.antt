@@ -132,7 +132,7 @@ pub secondary_goes_on : SecondaryGoesOn
 secondary_goes_on a lines start = each_log a (StandsWithSecondary a) (goes_on a start) lines
 
 -- WITH A STOP OF THE PRIMARY the run is the secondary's
-run_segments_are : (a : Start) → IsStart a → (steps : List Step) (past : Past) → Reached Fits a steps past
+pub run_segments_are : (a : Start) → IsStart a → (steps : List Step) (past : Past) → Reached Fits a steps past
     → has_primary_stop (entries steps) ≡ true → sent_of past.secondary.items ≡ run_segments a (entries steps)
 unfolding run_segments the_run taken_turns secondary_turns
 run_segments_are a start steps past r e =

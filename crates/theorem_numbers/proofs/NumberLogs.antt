@@ -46,11 +46,11 @@ use Rattle.theorem_numbers.proofs.SynEvents.{syns_reached}
 use Rattle.theorem_numbers.proofs.SynLemmas.{HasNumber, SynIsKept}
 
 -- A SYN THAT WAS SHOWN: its client was opened, and its number is kept or the client was left
-record SynHolds (numbers : List KeptNumber) (said : List TcpFields) (x : Syn) : Type 0 where
-  opened : has_client x.client (clients_opened x.tuple said) ≡ true
-  status : HasNumber numbers x.tuple x.client x.number ⊎ (has_left x.client (clients_opened x.tuple said) ≡ true)
+pub record SynHolds (numbers : List KeptNumber) (said : List TcpFields) (x : Syn) : Type 0 where
+  pub opened : has_client x.client (clients_opened x.tuple said) ≡ true
+  pub status : HasNumber numbers x.tuple x.client x.number ⊎ (has_left x.client (clients_opened x.tuple said) ≡ true)
 
-as_test : (numbers : List KeptNumber) (said : List TcpFields) (x : Syn) → SynHolds numbers said x →
+pub as_test : (numbers : List KeptNumber) (said : List TcpFields) (x : Syn) → SynHolds numbers said x →
     KeptOrLeft numbers said x
 as_test numbers said x h = by h.status
   where
@@ -117,7 +117,7 @@ holds_on numbers new said more x e on h = record { opened = opened; status = by 
         ∙ left_more x.client (clients_opened x.tuple said) (clients_opened x.tuple more) l)
 
 -- ONE NUMBER for a client
-abbrev IsCurrent : List TcpFields → Syn → Type 0
+abbrev pub IsCurrent : List TcpFields → Syn → Type 0
 IsCurrent said x = EndsWith x.client (clients_opened x.tuple said)
 
 shows_more : (said more : List TcpFields) (x y : Syn) → same_number_shown said x y ≡ true →
@@ -136,7 +136,7 @@ shows_more said more x y e =
     by false true c f g = refl
     by false false c f g = g f
 
-pair_shows : (numbers : List KeptNumber) (said : List TcpFields) (x y : Syn) → SynHolds numbers said x →
+pub pair_shows : (numbers : List KeptNumber) (said : List TcpFields) (x y : Syn) → SynHolds numbers said x →
     SynHolds numbers said y → IsCurrent said x ⊎ IsCurrent said y → same_number_shown said x y ≡ true
 unfolding same_number_shown
 pair_shows numbers said x y h g current =
@@ -202,11 +202,11 @@ pair_shows numbers said x y h g current =
         one_of (same_tuple-eq x.tuple y.tuple parts.0) (eqb-true x.client y.client parts.1) h.status g.status
 
 -- THE NEW SYNS of an event
-record IsNew (numbers : List KeptNumber) (said : List TcpFields) (x : Syn) : Type 0 where
-  holds : SynHolds numbers said x
-  current : IsCurrent said x
+pub record IsNew (numbers : List KeptNumber) (said : List TcpFields) (x : Syn) : Type 0 where
+  pub holds : SynHolds numbers said x
+  pub current : IsCurrent said x
 
-clients_placed : (a : Start) (past : Past) (released out : List Released) →
+pub clients_placed : (a : Start) (past : Past) (released out : List Released) →
     All (λ (p : Place). p.client ≡ current_client past p.segment.tuple) (places_after a past released out)
 unfolding places_after
 clients_placed a past released [] = All-nil (λ (p : Place). p.client ≡ current_client past p.segment.tuple)
@@ -309,14 +309,14 @@ all_shows numbers said old new holds fresh h =
     (λ (y : Syn) (g : IsNew numbers said y). pair_shows numbers said x y f.holds g.holds (inl f.current)) new fresh))
     new fresh)
 
-shows_on : (old new more : List TcpFields) (shown : List Syn) → new ≡ old ++ more → ShowOneNumber old shown →
+pub shows_on : (old new more : List TcpFields) (shown : List Syn) → new ≡ old ++ more → ShowOneNumber old shown →
     ShowOneNumber new shown
 shows_on old new more shown e h =
     subst (λ (said : List TcpFields). ShowOneNumber said shown) (sym e)
     (λ k d l i c j. shows_more old more (get_or shown k d) (get_or shown i c) (h k d l i c j))
 
 -- EVERY HISTORY
-syns_push : (a : Start) (steps : List Step) (past : Past) (x : Line) → Reached Fits a steps past →
+pub syns_push : (a : Start) (steps : List Step) (past : Past) (x : Line) → Reached Fits a steps past →
     syns a (steps ++ (outcome_of a.kind a.stream past x).step ∷ [])
     ≡ syns a steps ++ filter_map syn_of (event_places a (event_after a steps past x))
 unfolding syns
@@ -328,16 +328,16 @@ syns_push a steps past x r =
     (filter_map syn_of (event_places a (event_after a steps past x)))))
 
 -- what holds of all SYNs shown
-record AllShown (numbers : List KeptNumber) (said : List TcpFields) (shown : List Syn) : Type 0 where
-  holds : All (SynHolds numbers said) shown
-  one : ShowOneNumber said shown
+pub record AllShown (numbers : List KeptNumber) (said : List TcpFields) (shown : List Syn) : Type 0 where
+  pub holds : All (SynHolds numbers said) shown
+  pub one : ShowOneNumber said shown
 
-first_shown : (a : Start) → IsStart a → AllShown a.numbers (sent_of a.items) (syns a [])
+pub first_shown : (a : Start) → IsStart a → AllShown a.numbers (sent_of a.items) (syns a [])
 unfolding syns places events events_from
 first_shown a (boots kind stream state m n regular fits bytes are) =
     record { holds = All-nil (SynHolds [] []); one = All-nil _ }
 
-all_shown : (a : Start) → IsStart a → (steps : List Step) (past : Past) → Reached Fits a steps past →
+pub all_shown : (a : Start) → IsStart a → (steps : List Step) (past : Past) → Reached Fits a steps past →
     secondary_releases past ≡ false → AllShown past.numbers (sent_of past.primary.items) (syns a steps)
 unfolding event_places
 all_shown a start steps past begins e = first_shown a start

@@ -89,10 +89,10 @@ settle_syns a past released numbers scene so_far (u ∷ tuples) g h =
     (current_kept past numbers scene u g) last.kinds))
 
 -- AN EVENT
-abbrev SynsKept : Start → List Released → Outcome → Type 0
+abbrev pub SynsKept : Start → List Released → Outcome → Type 0
 SynsKept a released o = All (SynIsKept o.after.numbers) (places_after a o.after released o.step.released)
 
-settles : (a : Start) (past : Past) (released : List Released) (numbers : List KeptNumber) (x : Settling)
+pub settles : (a : Start) (past : Past) (released : List Released) (numbers : List KeptNumber) (x : Settling)
     (after : Past) → All NumberFits past.numbers → All AreInRange x.own →
     AreNumbered x.before past.numbers past.progress → releasing_items after ≡ x.before ++ map sent x.own →
     ((t : Tuple) (o : Opening) → (line t (releasing_items after)).opening ≡ Some o →
@@ -113,7 +113,7 @@ settles a past released numbers x after fit own numbered items kept =
       kept = λ t o e. kept t o (ap (λ (xs : List Item). (line t xs).opening) same ∙ e);
     }) (All-nil (SynIsKept numbers))
 
-same_kept : (numbers : List KeptNumber) (t : Tuple) (c : ℕ) → KeepsAlike numbers numbers t c
+pub same_kept : (numbers : List KeptNumber) (t : Tuple) (c : ℕ) → KeepsAlike numbers numbers t c
 same_kept numbers t c = record { some = refl; number = refl }
 
 primary_settles : (a : Start) (p : Past) (released : List Released) (x : Settling) (l : Line) (marks : List Mark)

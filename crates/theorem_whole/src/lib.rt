@@ -3,4 +3,4 @@
 
 mod whole;
 
-pub use whole::{holds_with_numbers, splices_with_numbers};
+pub use whole::the_theorem_holds;

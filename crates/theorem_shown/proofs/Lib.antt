@@ -1,0 +1,5 @@
+pub mod ShownLemmas
+pub mod WaitEvents
+pub mod ToldLogs
+pub mod SurvivorEvents
+pub mod ShownLogs
